@@ -1,0 +1,18 @@
+//! The environment that a run sees.
+use crate::sequence::Seq;
+use crate::text::Txt;
+
+/// An environment variable and its value.
+#[derive(Debug, Drop)]
+pub struct EnvPair {
+    pub name: Txt,
+    pub value: Txt,
+}
+
+/// The environment of a run. Of two pairs with one name the first counts; `os` and `arch` are names as Bazel writes them, like `linux` and `amd64`.
+#[derive(Debug, Drop)]
+pub struct EnvTable {
+    pub pairs: Seq<EnvPair>,
+    pub os: Txt,
+    pub arch: Txt,
+}
