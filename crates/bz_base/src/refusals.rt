@@ -190,3 +190,13 @@ impl Code {
         }
     }
 }
+
+#[cfg(test)]
+mod tests {
+    use super::*;
+
+    #[test]
+    fn prints_its_name(rt: HostRuntime) {
+        assert_eq!(rt; Code::SourceNotLocal.name(), "SourceNotLocal");
+    }
+}

@@ -13,7 +13,7 @@ use std::marker::Model;
 #[derive(Clone, Copy, Debug, PartialEq, Eq)]
 pub struct BadPath;
 
-/// A normal path. Contracts see it as its bytes: no segment is empty or `.`, and `..` stands only in front of a path from the workspace on, which is itself the empty path.
+/// A path, resolved by its text alone. Contracts see it as its bytes; the workspace is the empty path.
 #[derive(Debug, Drop)]
 pub struct TreePath {
     text: Txt,
@@ -136,10 +136,10 @@ fn go_up(alloc: Global, rooted: bool, names: Seq<Txt>) -> May<Seq<Txt>, BadPath>
         names.pop();
         return Ok(Seq::of_vec(names));
     }
-    if rooted {
-        return Err(Miss::Because(BadPath));
+    if !rooted {
+        return add(alloc, names, "..");
     }
-    add(alloc, names, "..")
+    Err(Miss::Because(BadPath))
 }
 
 fn ends_in_name(names: &[Txt]) -> bool
@@ -192,4 +192,42 @@ fn push_further(text: &mut String, names: &[Txt]) -> Mem<()>
         text.push_str(name.as_str())?;
     }
     Ok(())
+}
+
+#[cfg(test)]
+mod tests {
+    use super::*;
+    use std::test::Fail;
+
+    fn joined(rt: &HostRuntime, path: &str, text: &str) -> Result<String, Fail> {
+        let alloc = rt.alloc();
+        let path = TreePath::workspace(alloc).join(alloc, path)?;
+        Ok(String::from_str(alloc, path.join(alloc, text)?.as_str())?)
+    }
+
+    #[test]
+    fn joins_resolve_dots(rt: HostRuntime) -> Result<(), Fail> {
+        for (path, text, want) in [
+            ("a/b", "../c/./d", "a/c/d"),
+            ("", "../x", "../x"),
+            ("a//b/", "", "a/b"),
+            ("a", "/b/../c", "/c"),
+            ("..", "../x", "../../x"),
+            ("/", "", "/"),
+        ] {
+            assert_eq!(rt; joined(&rt, path, text)?.as_str(), want);
+        }
+        Ok(())
+    }
+
+    #[test]
+    fn no_join_leaves_the_top_or_has_a_nul(rt: HostRuntime) -> Result<(), Fail> {
+        let alloc = rt.alloc();
+        let top = TreePath::workspace(alloc).join(alloc, "/a")?;
+        for text in ["../..", "/..", "b\0"] {
+            assert!(rt; matches!(top.join(alloc, text), Err(Miss::Because(BadPath))));
+        }
+        assert_eq!(rt; top.copy(alloc)?.as_str(), "/a");
+        Ok(())
+    }
 }

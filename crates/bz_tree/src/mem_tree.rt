@@ -217,3 +217,62 @@ fn is_below(text: &str, other: &str) -> bool
 {
     text < other
 }
+
+#[cfg(test)]
+mod tests {
+    use super::*;
+    use std::test::Fail;
+
+    fn path(rt: &HostRuntime, text: &str) -> Result<TreePath, Fail> {
+        Ok(TreePath::workspace(rt.alloc()).join(rt.alloc(), text)?)
+    }
+
+    fn shown(rt: &HostRuntime, tree: &mut MemTree, text: &str) -> Result<String, Fail> {
+        let alloc = rt.alloc();
+        let path = path(rt, text)?;
+        Ok(match tree.read(alloc, &path) {
+            Ok(Found::Bytes(bytes)) => format!(in alloc; "{} bytes", bytes.items().len())?,
+            Ok(Found::Large) => String::from_str(alloc, "large")?,
+            Ok(Found::Absent) => String::from_str(alloc, "absent")?,
+            Ok(Found::Listing(names)) => {
+                let mut line = String::from_str(alloc, "lists")?;
+                for name in names.items() {
+                    line.push_str(" ")?;
+                    line.push_str(name.as_str())?;
+                }
+                line
+            }
+            Err(_) => String::from_str(alloc, "failed")?,
+        })
+    }
+
+    #[test]
+    fn a_put_makes_the_directories_above(rt: HostRuntime) -> Result<(), Fail> {
+        let mut tree = MemTree::new(rt.alloc());
+        for file in ["b/y", "b/x", "a", "../d/z"] {
+            tree.put(rt.alloc(), path(&rt, file)?, b"12")?;
+        }
+        for (place, want) in [
+            ("", "lists a b"),
+            ("b", "lists x y"),
+            ("b/x", "2 bytes"),
+            ("..", "lists d"),
+            ("b/z", "absent"),
+        ] {
+            assert_eq!(rt; shown(&rt, &mut tree, place)?.as_str(), want);
+        }
+        tree.put(rt.alloc(), path(&rt, "a/c")?, b"")?;
+        assert_eq!(rt; shown(&rt, &mut tree, "a")?.as_str(), "lists c");
+        Ok(())
+    }
+
+    #[test]
+    fn the_planned_read_fails(rt: HostRuntime) -> Result<(), Fail> {
+        let mut tree = MemTree::new(rt.alloc());
+        tree.fail_read(2);
+        for want in ["absent", "failed", "absent"] {
+            assert_eq!(rt; shown(&rt, &mut tree, "a")?.as_str(), want);
+        }
+        Ok(())
+    }
+}

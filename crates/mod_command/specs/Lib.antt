@@ -1,0 +1,8 @@
+pub mod Commands
+pub mod Graphs
+pub mod Printing
+pub mod RootFiles
+pub mod Runs
+pub mod Statuses
+pub mod Stopping
+pub mod Written

@@ -1,0 +1,33 @@
+//! Why a command gives no text.
+ghost use Rattle.std.specs.Prelude.{◌≡◌};
+ghost use Rattle.mod_command.specs.Stopping.{stop_of_miss};
+ghost use Rattle.mod_command.specs.declared.stops.Stop.TheVariants.{OutOfMemory};
+
+use bz_base::{Miss, OutOfMemory, Refusal, TreePath};
+
+/// What comes in place of a command's text.
+#[derive(Debug, Drop)]
+pub(crate) enum Stop {
+    Refused(Refusal),
+    ReadFault(TreePath),
+    OutOfMemory,
+}
+
+impl From<OutOfMemory> for Stop {
+    ghost from_gives = { λ _ stop. stop ≡ OutOfMemory };
+
+    fn from(_error: OutOfMemory) -> Stop {
+        Stop::OutOfMemory
+    }
+}
+
+impl From<Miss<Refusal>> for Stop {
+    ghost from_gives = { λ miss stop. stop ≡ stop_of_miss miss };
+
+    fn from(miss: Miss<Refusal>) -> Stop {
+        match miss {
+            Miss::OutOfMemory => Stop::OutOfMemory,
+            Miss::Because(refusal) => Stop::Refused(refusal),
+        }
+    }
+}

@@ -1,0 +1,187 @@
+//! The call that a program makes: from words over a tree, a keeper and two sinks to a status.
+ghost use Rattle.std.specs.Prelude.{◌≡◌, map, string_bytes};
+ghost use Rattle.mod_command.specs.Runs.{Promised, keeper_run, sink_run, tree_run};
+
+use crate::command::read_words;
+use crate::printing::{print_done, tell, tell_stop};
+use crate::status::Status;
+use crate::texts::text;
+use bz_base::{EnvTable, Steps};
+use bz_tree::{Gate, LockKeeper, Sink, Tree};
+use std::alloc::Global;
+use std::marker::Brand;
+use std::sync::Wait;
+use std::sync::ledger::{Blank, Ledger};
+use std::thread::Threads;
+
+/// Runs the command that the words spell, on the caller's thread. It waits for nobody and returns.
+pub fn evaluate_one<T: Tree, K: LockKeeper, S: Sink, E: Sink, L: Ledger>(
+    alloc: Global,
+    words: &[String],
+    env: &EnvTable,
+    tree: &mut T,
+    lock: &mut K,
+    out: &mut S,
+    err: &mut E,
+    steps: &mut Steps<L>,
+) -> Status
+    ensures promised { Promised (record { words = map string_bytes words.now; tree = tree_run T.files T.faults T.failed tree.old tree.new; lock = keeper_run K.held K.faults lock.old lock.new; out = sink_run S.written S.faults out.old out.new; err = sink_run E.written E.faults err.old err.new }) result }
+    ensures files_kept { T.files tree.new ≡ T.files tree.old }
+    ensures no_steps { steps.new ≡ steps.old }
+{
+    let Some(command) = read_words(words) else {
+        tell(err, "modtool: usage\n");
+        return Status::Usage;
+    };
+    match text(alloc, command, tree) {
+        Err(stop) => tell_stop(alloc, err, stop),
+        Ok(text) => print_done(alloc, out, err, &text),
+    }
+}
+
+/// Runs the command that the words spell. If it returns, it keeps what `evaluate_one` keeps.
+pub fn modtool<R: Threads + Wait + Sync, T: Tree, K: LockKeeper, S: Sink, E: Sink, G: Gate>(
+    rt: &R,
+    alloc: Global,
+    words: &[String],
+    env: &EnvTable,
+    tree: &mut T,
+    lock: &mut K,
+    out: &mut S,
+    err: &mut E,
+    gate: &G,
+) -> Status
+    ensures promised { Promised (record { words = map string_bytes words.now; tree = tree_run T.files T.faults T.failed tree.old tree.new; lock = keeper_run K.held K.faults lock.old lock.new; out = sink_run S.written S.faults out.old out.new; err = sink_run E.written E.faults err.old err.new }) result }
+    ensures files_kept { T.files tree.new ≡ T.files tree.old }
+{
+    count_and_run::<T, K, S, E, Brand>(alloc, Blank::new(1), words, env, tree, lock, out, err)
+}
+
+fn count_and_run<T: Tree, K: LockKeeper, S: Sink, E: Sink, L: Ledger>(
+    alloc: Global,
+    ledger: Blank,
+    words: &[String],
+    env: &EnvTable,
+    tree: &mut T,
+    lock: &mut K,
+    out: &mut S,
+    err: &mut E,
+) -> Status
+    requires name { ledger.name ≡ L.name }
+    requires parts { ledger.parts ≡ L.parts }
+    ensures promised { Promised (record { words = map string_bytes words.now; tree = tree_run T.files T.faults T.failed tree.old tree.new; lock = keeper_run K.held K.faults lock.old lock.new; out = sink_run S.written S.faults out.old out.new; err = sink_run E.written E.faults err.old err.new }) result }
+    ensures files_kept { T.files tree.new ≡ T.files tree.old }
+{
+    let mut steps: Steps<L> = Steps::of(ledger);
+    evaluate_one(alloc, words, env, tree, lock, out, err, &mut steps)
+}
+
+#[cfg(test)]
+mod tests {
+    use super::*;
+    use bz_base::{Seq, TreePath, Txt};
+    use bz_tree::{MemLock, MemSink, MemTree, NoGate};
+    use std::test::Fail;
+
+    /// A tree with one root file.
+    fn rooted<R: AllocGlobal>(rt: &R, text: &str) -> Result<MemTree, Fail> {
+        let alloc = rt.alloc();
+        let mut tree = MemTree::new(alloc);
+        let path = TreePath::workspace(alloc).join(alloc, "MODULE.bazel")?;
+        tree.put(alloc, path, text.as_bytes())?;
+        Ok(tree)
+    }
+
+    /// What a run leaves: its number, and what stands on `out` and on `err`.
+    fn left<R: AllocGlobal + Threads + Wait + Sync>(
+        rt: &R,
+        words: &[&str],
+        tree: &mut MemTree,
+        room: u64,
+    ) -> Result<String, Fail> {
+        let alloc = rt.alloc();
+        let mut owned = Vec::new(alloc);
+        for word in words {
+            owned.push(String::from_str(alloc, word)?)?;
+        }
+        let env = EnvTable {
+            pairs: Seq::new(alloc),
+            os: Txt::of(alloc, "linux")?,
+            arch: Txt::of(alloc, "amd64")?,
+        };
+        let mut out = MemSink::new(alloc, room)?;
+        let mut err = MemSink::new(alloc, 1000)?;
+        let status = modtool(
+            rt,
+            alloc,
+            &owned,
+            &env,
+            tree,
+            &mut MemLock::new(None),
+            &mut out,
+            &mut err,
+            &NoGate,
+        );
+        let number = status.number();
+        let out = str::from_utf8(out.bytes())?;
+        let err = str::from_utf8(err.bytes())?;
+        Ok(format!(in alloc; "{number}|{out}|{err}")?)
+    }
+
+    const DONE: &str = "0|<root>\n|modtool: ok, 0 evaluated, 0 reused\n";
+
+    #[test]
+    fn answers_each_root_file(rt: HostRuntime) -> Result<(), Fail> {
+        for (text, want) in [
+            ("", DONE),
+            ("\n\n", DONE),
+            (
+                "bazel_dep(name=\"a\", version=\"1.0\")",
+                "1||modtool: refused Form\n",
+            ),
+        ] {
+            let mut tree = rooted(&rt, text)?;
+            assert_eq!(rt; left(&rt, &["graph"], &mut tree, 100)?.as_str(), want);
+        }
+        Ok(())
+    }
+
+    #[test]
+    fn refuses_a_root_that_is_no_file(rt: HostRuntime) -> Result<(), Fail> {
+        let alloc = rt.alloc();
+        let want = "1||modtool: refused NoRoot at <root>/MODULE.bazel\n";
+        let mut tree = MemTree::new(alloc);
+        assert_eq!(rt; left(&rt, &["graph"], &mut tree, 100)?.as_str(), want);
+        let below = TreePath::workspace(alloc).join(alloc, "MODULE.bazel/x")?;
+        tree.put(alloc, below, b"")?;
+        assert_eq!(rt; left(&rt, &["graph"], &mut tree, 100)?.as_str(), want);
+        Ok(())
+    }
+
+    #[test]
+    fn other_words_are_usage(rt: HostRuntime) -> Result<(), Fail> {
+        let mut tree = rooted(&rt, "")?;
+        for words in [[].as_slice(), &["fetch"], &["graph", "x"], &[""]] {
+            assert_eq!(rt;
+                left(&rt, words, &mut tree, 100)?.as_str(),
+                "2||modtool: usage\n"
+            );
+        }
+        Ok(())
+    }
+
+    #[test]
+    fn faults_are_told(rt: HostRuntime) -> Result<(), Fail> {
+        let mut tree = rooted(&rt, "")?;
+        assert_eq!(rt;
+            left(&rt, &["graph"], &mut tree, 3)?.as_str(),
+            "4|<ro|modtool: write fault\n"
+        );
+        tree.fail_read(1);
+        assert_eq!(rt;
+            left(&rt, &["graph"], &mut tree, 100)?.as_str(),
+            "3||modtool: read fault: MODULE.bazel\n"
+        );
+        Ok(())
+    }
+}
