@@ -1,0 +1,5 @@
+pub mod Digits
+pub mod Grammar
+pub mod Precedence
+pub mod Scan
+pub mod Texts

@@ -1,0 +1,76 @@
+//! Versions.
+ghost use Rattle.std.specs.Prelude.{◌≡◌, ◌↔◌, [], IfOk, IsTrue};
+ghost use Rattle.bz_base.specs.Answers.{Gives};
+ghost use Rattle.bz_version.specs.Precedence.{precedence};
+ghost use Rattle.bz_version.specs.Scan.{version_of};
+
+use crate::precedence::order_of_texts;
+use crate::scanner::{first_fault, without_build};
+use bz_base::{May, Mem, Miss, Txt};
+use std::alloc::Global;
+use std::cmp::Ordering;
+use std::marker::Model;
+
+/// The text is no version.
+#[derive(Clone, Copy, Debug, PartialEq, Eq)]
+pub struct BadVersion {
+    /// The place of the first byte after which no version can follow, or the length.
+    pub place: u64,
+}
+
+/// A version. Contracts see it as its text without BUILD, which for the empty version is empty.
+#[derive(Debug, Drop)]
+pub struct Version {
+    text: Txt,
+}
+
+impl Model for Version {
+    ghost use Rattle.std.specs.Prelude.{List, ℕ};
+
+    ghost Value = { List ℕ };
+
+    ghost view = { λ v. v.text };
+}
+
+impl Version {
+    /// Reads a version.
+    pub fn parse(alloc: Global, text: &str) -> May<Version, BadVersion>
+        ensures { Gives (version_of text.now) result }
+    {
+        match first_fault(text) {
+            Some(place) => Err(Miss::Because(BadVersion { place })),
+            None => Ok(Version {
+                text: Txt::of(alloc, without_build(text))?,
+            }),
+        }
+    }
+
+    /// The precedence of two versions.
+    pub fn order(&self, other: &Version) -> Ordering
+        ensures { result ≡ precedence self.now other.now }
+    {
+        order_of_texts(self.text(), other.text())
+    }
+
+    pub fn text(&self) -> &str
+        ensures { result.now ≡ self.now }
+    {
+        self.text.as_str()
+    }
+
+    /// Whether this is the empty version, which is above every other.
+    pub fn is_empty(&self) -> bool
+        ensures { IsTrue result ↔ (self.now ≡ []) }
+    {
+        self.text() == ""
+    }
+
+    /// A second version with the same text.
+    pub fn copy(&self, alloc: Global) -> Mem<Version>
+        ensures { IfOk result (λ copy. copy ≡ self.now) }
+    {
+        Ok(Version {
+            text: self.text.copy(alloc)?,
+        })
+    }
+}
