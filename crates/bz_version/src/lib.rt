@@ -1,6 +1,7 @@
 #![tactic(auto)]
 
 mod cuts;
+pub mod laws;
 mod precedence;
 mod scanner;
 pub mod versions;
