@@ -1,8 +1,11 @@
 //! Laws of versions, each over all texts.
-ghost use Rattle.std.specs.Prelude.{◌≡◌, ◌≢◌, List, ℕ, []};
+ghost use Rattle.std.specs.Prelude.{◌≡◌, ◌≢◌, List, ℕ, [], Ok, Err};
 ghost use Rattle.std.specs.Ordering.{ordering_reverse};
 ghost use Rattle.std.specs.declared.cmp.Ordering.TheVariants.{Less, Equal};
-ghost use Rattle.bz_version.specs.Precedence.{precedence};
+ghost use Rattle.bz_version.specs.Precedence.{parts_of, precedence};
+ghost use Rattle.bz_version.specs.Grammar.{IsFault, Parts, Spells, written};
+ghost use Rattle.bz_version.specs.Scan.{version_of};
+ghost use Rattle.bz_version.specs.declared.versions.BadVersion.{BadVersion};
 
 /// A version is as high as itself.
 #[tactic(auto, using(crate::proofs::Orders::precedence_itself))]
@@ -36,5 +39,23 @@ pub fn order_is_transitive()
 #[tactic(auto, using(crate::proofs::Orders::precedence_empty))]
 pub fn empty_version_is_above()
     ensures { (text : List ℕ) → text ≢ [] → precedence text [] ≡ Less }
+{
+}
+
+/// What is read is spelled as the grammar has it, by the identifiers that the order sees.
+pub fn read_is_spelled()
+    ensures { (text kept : List ℕ) → version_of text ≡ Ok kept → (build : List ℕ) × Spells text (parts_of kept) build × (kept ≡ written (parts_of kept)) }
+{
+}
+
+/// What the grammar spells is read, and BUILD has no part in what is kept.
+pub fn spelled_is_read()
+    ensures { (text : List ℕ) (version : Parts) (build : List ℕ) → Spells text version build → (version_of text ≡ Ok (written version)) × (parts_of (written version) ≡ version) }
+{
+}
+
+/// Where nothing is read, the grammar spells nothing, and the place is that of the first byte after which no version can follow, or the length.
+pub fn fault_is_first()
+    ensures { (text : List ℕ) (fault : BadVersion) → version_of text ≡ Err fault → IsFault text fault.place }
 {
 }

@@ -1,0 +1,82 @@
+-- What is read is what is spelled, and the place of a fault is the first after which no version can follow.
+use Rattle.std.proofs.Common.{◌≡◌, ℕ, zero, suc, ◌<◌, ◌≤◌, ◌+◌, Bool, true, false, List, [], ◌∷◌, ◌++◌, length, take, Option, Some, None, Result, Ok, Err, refl, sym, ap, subst, ◌∙◌, arith}
+use Rattle.std.proofs.lemmas.Bool.{both_ways}
+use Rattle.std.specs.Option.{option_map_or}
+use Rattle.bz_version.proofs.Kept.{before-spelled, parts_of-written}
+use Rattle.bz_version.proofs.Remains.{finishes_version}
+use Rattle.bz_version.proofs.Runs.{FaultAt, fault_at, fault_from-finishes, finishes, finishes-append, finishes-faultless, place_behind}
+use Rattle.bz_version.proofs.Spelled.{spelled_finishes, version_finishes}
+use Rattle.bz_version.specs.Grammar.{CanFollow, IsFault, IsVersion, Parts, Spells, written}
+use Rattle.bz_version.specs.Precedence.{parts_of}
+use Rattle.bz_version.specs.Scan.{fault_from, version_of}
+use Rattle.bz_version.specs.Texts.{before}
+use Rattle.bz_version.specs.declared.scanner.Place.{Place}
+use Rattle.bz_version.specs.declared.scanner.Place.TheVariants.{Start, ReleaseFirst, Release, PrereleaseFirst, Prerelease, BuildFirst, Build}
+use Rattle.bz_version.specs.declared.versions.BadVersion.{BadVersion}
+
+-- a text with which a version may end
+completion : Place → List ℕ
+completion Start = []
+completion ReleaseFirst = 97 ∷ []
+completion Release = []
+completion PrereleaseFirst = 97 ∷ []
+completion Prerelease = []
+completion BuildFirst = 97 ∷ []
+completion Build = []
+
+completion_finishes : (place : Place) → finishes place (completion place) ≡ true
+unfolding completion
+completion_finishes Start = refl
+completion_finishes ReleaseFirst = refl
+completion_finishes Release = refl
+completion_finishes PrereleaseFirst = refl
+completion_finishes Prerelease = refl
+completion_finishes BuildFirst = refl
+completion_finishes Build = refl
+
+can_follow : (text : List ℕ) (next : Place) → place_behind Start text ≡ Some next → CanFollow text
+can_follow text next e = (completion next, finishes_version _ (finishes-append Start text (completion next) ∙ rw e (completion_finishes next)))
+
+cannot_follow : (text : List ℕ) → place_behind Start text ≡ None → CanFollow text → ⊥
+cannot_follow text e c =
+    let unfinished : finishes Start (text ++ c.0) ≡ false = finishes-append Start text c.0 ∙ rw e refl in
+    both_ways _ unfinished (version_finishes _ c.1)
+
+fault_from-Some : (text : List ℕ) (fault : BadVersion) → version_of text ≡ Err fault → fault_from Start 0 text ≡ Some fault.place
+fault_from-Some text fault e =
+    (elim (fault_from Start 0 text) as (λ (o : Option ℕ). option_map_or {U = Result (List ℕ) BadVersion} (λ place. Err (record { place = place })) o (Ok (before 43 text)) ≡ Err fault → o ≡ Some fault.place) [
+      | None ↦ λ e. absurd (cc e)
+      | Some place ↦ λ e. let same : record { place = place } ≡ fault = cc e in ap (λ (f : BadVersion). Some f.place) same
+    ]) e
+
+pub fault_is_first : (text : List ℕ) (fault : BadVersion) → version_of text ≡ Err fault → IsFault text fault.place
+fault_is_first text fault e =
+    let f = fault_at Start 0 text fault.place (fault_from-Some text fault e) in
+    let same : fault.place ≡ f.bytes = omega arith in
+    let next : fault.place + 1 ≡ suc f.bytes = omega arith in
+    record {
+      within = omega arith;
+      goes_on = rw same (can_follow _ f.next f.goes_on);
+      stops = λ h. rw next (cannot_follow _ (f.stops (omega arith)));
+      no_version = λ v. both_ways _ f.unfinished (version_finishes text v);
+    }
+
+fault_from-None : (text kept : List ℕ) → version_of text ≡ Ok kept → (fault_from Start 0 text ≡ None) × (before 43 text ≡ kept)
+fault_from-None text kept e =
+    (elim (fault_from Start 0 text) as (λ (o : Option ℕ). option_map_or {U = Result (List ℕ) BadVersion} (λ place. Err (record { place = place })) o (Ok (before 43 text)) ≡ Ok kept → (o ≡ None) × (before 43 text ≡ kept)) [
+      | None ↦ λ e. (refl, cc e)
+      | Some place ↦ λ e. absurd (cc e)
+    ]) e
+
+pub spelled_is_read : (text : List ℕ) (version : Parts) (build : List ℕ) → Spells text version build → (version_of text ≡ Ok (written version)) × (parts_of (written version) ≡ version)
+spelled_is_read text version build s =
+    let faultless = fault_from-finishes Start 0 text (spelled_finishes text version build s) in
+    (rw (faultless, before-spelled text version build s) refl, parts_of-written text version build s)
+
+pub read_is_spelled : (text kept : List ℕ) → version_of text ≡ Ok kept → (build : List ℕ) × Spells text (parts_of kept) build × (kept ≡ written (parts_of kept))
+read_is_spelled text kept e =
+    let read = fault_from-None text kept e in
+    let v = finishes_version text (finishes-faultless Start 0 text read.0) in
+    let same : kept ≡ written v.0 = sym read.1 ∙ before-spelled text v.0 v.1 v.2 in
+    let parts : parts_of kept ≡ v.0 = ap parts_of same ∙ parts_of-written text v.0 v.1 v.2 in
+    (v.1, subst (λ (w : Parts). Spells text w v.1) (sym parts) v.2, same ∙ ap written (sym parts))
