@@ -1,3 +1,4 @@
+pub mod Differences
 pub mod Kept
 pub mod Marks
 pub mod Numbers

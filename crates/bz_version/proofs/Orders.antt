@@ -48,10 +48,10 @@ identifier_order-by_class x y = elim (cases_Bool (is_numeric x)) [
   | inr nx ↦ elim (cases_Bool (is_numeric y)) [ inl ny ↦ rw (nx, ny) refl | inr ny ↦ rw (nx, ny) refl ]
 ]
 
-identifier_total : IsTotalOrder identifier_order
+pub identifier_total : IsTotalOrder identifier_order
 identifier_total = IsTotalOrder-same identifier_order-by_class (then_total (on_total class nat_cmp_total) (then_total (on_total number_or_nought nat_cmp_total) nat_list_cmp_total))
 
-identifier_same : IsAntisymmetric identifier_order
+pub identifier_same : IsAntisymmetric identifier_order
 identifier_same x y e =
     slice_cmp-IsAntisymmetric nat_cmp-IsAntisymmetric x y (then_second _ _ (then_second _ _ (sym (identifier_order-by_class x y) ∙ e)))
 
@@ -69,10 +69,10 @@ part_order-by_absence [] (y ∷ ys) = refl
 part_order-by_absence (x ∷ xs) [] = refl
 part_order-by_absence (x ∷ xs) (y ∷ ys) = refl
 
-part_total : IsTotalOrder part_order
+pub part_total : IsTotalOrder part_order
 part_total = IsTotalOrder-same part_order-by_absence (then_total (on_total absence nat_cmp_total) (lists_total identifier_total))
 
-part_same : IsAntisymmetric part_order
+pub part_same : IsAntisymmetric part_order
 part_same xs ys e = slice_cmp-IsAntisymmetric identifier_same xs ys (then_second _ _ (sym (part_order-by_absence xs ys) ∙ e))
 
 version_total : IsTotalOrder version_order

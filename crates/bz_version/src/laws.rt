@@ -1,9 +1,10 @@
 //! Laws of versions, each over all texts.
-ghost use Rattle.std.specs.Prelude.{◌≡◌, ◌≢◌, List, ℕ, [], Ok, Err};
+ghost use Rattle.std.specs.Prelude.{◌≡◌, ◌≢◌, ◌↔◌, List, ℕ, [], Ok, Err};
 ghost use Rattle.std.specs.Ordering.{ordering_reverse};
 ghost use Rattle.std.specs.declared.cmp.Ordering.TheVariants.{Less, Equal};
 ghost use Rattle.bz_version.specs.Precedence.{parts_of, precedence};
 ghost use Rattle.bz_version.specs.Grammar.{IsFault, Parts, Spells, written};
+ghost use Rattle.bz_version.specs.Below.{IsBelow};
 ghost use Rattle.bz_version.specs.Scan.{version_of};
 ghost use Rattle.bz_version.specs.declared.versions.BadVersion.{BadVersion};
 
@@ -57,5 +58,11 @@ pub fn spelled_is_read()
 /// Where nothing is read, the grammar spells nothing, and the place is that of the first byte after which no version can follow, or the length.
 pub fn fault_is_first()
     ensures { (text : List ℕ) (fault : BadVersion) → version_of text ≡ Err fault → IsFault text fault.place }
+{
+}
+
+/// The order is decided at the first place where two versions differ.
+pub fn first_difference_decides()
+    ensures { (first second : List ℕ) → (precedence first second ≡ Less) ↔ IsBelow (parts_of first) (parts_of second) }
 {
 }
