@@ -10,7 +10,8 @@ use Rattle.std.specs.declared.cmp.Ordering.TheVariants.{Less, Equal, Greater}
 use Rattle.bz_version.proofs.Orders.{identifier_same, identifier_total, part_same, part_total}
 use Rattle.bz_version.specs.Below.{DiffersBelow, EndsOrLower, IsBelow, IsBelowByKind, IsIdentifierBelow, IsNumberBelow, IsPartBelow, IsTextBelow}
 use Rattle.bz_version.specs.Grammar.{Parts}
-use Rattle.bz_version.specs.Precedence.{identifier_order, is_numeric, number_of, numeric_order, part_order, parts_of, precedence, version_order}
+use Rattle.bz_version.specs.Digits.{is_numeric, number_of}
+use Rattle.bz_version.specs.Precedence.{identifier_order, numeric_order, part_order, parts_of, precedence, version_order}
 
 -- an order that answers `Less` exactly where `Lower` holds, and `Equal` of one value alone
 record Ranks {X : Type 0} (R : X → X → Ordering) (Lower : X → X → Type 0) : Type 0 where

@@ -7,8 +7,8 @@ use Rattle.std.specs.List.{fold}
 use Rattle.std.specs.Ordering.{nat_cmp, ordering_reverse, ordering_then}
 use Rattle.std.specs.Cmp.Lexicographic.{slice_cmp}
 use Rattle.std.specs.declared.cmp.Ordering.TheVariants.{Less, Greater}
-use Rattle.bz_version.specs.Digits.{significant}
-use Rattle.bz_version.specs.Precedence.{is_numeric, number_of, numeric_order}
+use Rattle.bz_version.specs.Digits.{is_numeric, number_of, significant}
+use Rattle.bz_version.specs.Precedence.{numeric_order}
 
 -- the number that digits write behind a number
 abbrev number_behind : ℕ → List ℕ → ℕ

@@ -11,7 +11,8 @@ use Rattle.std.specs.declared.cmp.Ordering.TheVariants.{Less, Equal, Greater}
 use Rattle.bz_version.proofs.Marks.{dots_cut}
 use Rattle.bz_version.proofs.Rebuilt.{parts_of-same}
 use Rattle.bz_version.specs.Grammar.{Parts}
-use Rattle.bz_version.specs.Precedence.{identifier_order, is_numeric, number_of, part_order, parts_of, precedence, version_order}
+use Rattle.bz_version.specs.Digits.{is_numeric, number_of}
+use Rattle.bz_version.specs.Precedence.{identifier_order, part_order, parts_of, precedence, version_order}
 use Rattle.bz_version.specs.Texts.{before}
 
 -- an order that answers as a total order does is total

@@ -1,6 +1,6 @@
 -- What is read is what is spelled, and the place of a fault is the first after which no version can follow.
-use Rattle.std.proofs.Common.{◌≡◌, ℕ, zero, suc, ◌<◌, ◌≤◌, ◌+◌, Bool, true, false, List, [], ◌∷◌, ◌++◌, length, take, Option, Some, None, Result, Ok, Err, refl, sym, ap, subst, ◌∙◌, arith}
-use Rattle.std.proofs.lemmas.Bool.{both_ways}
+use Rattle.std.proofs.Common.{◌≡◌, ℕ, zero, suc, ◌<◌, ◌≤◌, ◌+◌, Bool, true, false, List, [], ◌∷◌, ◌++◌, length, take, Option, Some, None, Result, Ok, Err, refl, sym, ap, subst, ◌∙◌, append_assoc, append-nil, arith, ◌↔◌, inl, inr}
+use Rattle.std.proofs.lemmas.Bool.{both_ways, cases_order}
 use Rattle.std.specs.Option.{option_map_or}
 use Rattle.bz_version.proofs.Kept.{before-spelled, parts_of-written}
 use Rattle.bz_version.proofs.Remains.{finishes_version}
@@ -49,7 +49,7 @@ fault_from-Some text fault e =
       | Some place ↦ λ e. let same : record { place = place } ≡ fault = cc e in ap (λ (f : BadVersion). Some f.place) same
     ]) e
 
-pub fault_is_first : (text : List ℕ) (fault : BadVersion) → version_of text ≡ Err fault → IsFault text fault.place
+fault_is_first : (text : List ℕ) (fault : BadVersion) → version_of text ≡ Err fault → IsFault text fault.place
 fault_is_first text fault e =
     let f = fault_at Start 0 text fault.place (fault_from-Some text fault e) in
     let same : fault.place ≡ f.bytes = omega arith in
@@ -80,3 +80,54 @@ read_is_spelled text kept e =
     let same : kept ≡ written v.0 = sym read.1 ∙ before-spelled text v.0 v.1 v.2 in
     let parts : parts_of kept ≡ v.0 = ap parts_of same ∙ parts_of-written text v.0 v.1 v.2 in
     (v.1, subst (λ (w : Parts). Spells text w v.1) (sym parts) v.2, same ∙ ap written (sym parts))
+
+-- the text of a version is that of the version that is read from it
+pub kept_is_read_again : (text kept : List ℕ) → version_of text ≡ Ok kept → version_of kept ≡ Ok kept
+kept_is_read_again text kept e =
+    let read = read_is_spelled text kept e in
+    let spelled : Spells kept (parts_of kept) [] = record {
+      release = read.1.release;
+      prerelease = read.1.prerelease;
+      build_bytes = tt;
+      alone = λ none. ((read.1.alone none).0, refl);
+      spelled = read.2 ∙ sym (append-nil (written (parts_of kept)));
+    } in
+    (spelled_is_read kept (parts_of kept) [] spelled).0 ∙ ap (λ (l : List ℕ). Ok l) (sym read.2)
+
+-- the first bytes begin with fewer of them
+take_fewer : (m n : ℕ) (text : List ℕ) → m ≤ n → (back : List ℕ) × (take n text ≡ take m text ++ back)
+take_fewer zero n text h = (take n text, refl)
+take_fewer (suc m) zero text h = absurd (omega arith)
+take_fewer (suc m) (suc n) [] h = ([], refl)
+take_fewer (suc m) (suc n) (b ∷ rest) h =
+    let fewer = take_fewer m n rest (omega arith) in
+    (fewer.0, ap (λ (l : List ℕ). b ∷ l) fewer.1)
+
+-- where a version can follow, it can follow fewer bytes
+can_follow_fewer : (m n : ℕ) (text : List ℕ) → m ≤ n → CanFollow (take n text) → CanFollow (take m text)
+can_follow_fewer m n text h c =
+    let fewer = take_fewer m n text h in
+    (fewer.0 ++ c.0, subst IsVersion (ap (λ (l : List ℕ). l ++ c.0) fewer.1 ∙ append_assoc (take m text) fewer.0 c.0) c.1)
+
+no_earlier_fault : (text : List ℕ) (place other : ℕ) → IsFault text place → IsFault text other → place < other → ⊥
+no_earlier_fault text place other f g h =
+    let within = g.within in
+    f.stops (omega arith) (can_follow_fewer (place + 1) other text (omega arith) g.goes_on)
+
+-- a text has one fault
+one_fault : (text : List ℕ) (place other : ℕ) → IsFault text place → IsFault text other → place ≡ other
+one_fault text place other f g = elim (cases_order place other) [
+  | inl same ↦ same
+  | inr differ ↦ elim differ [ inl below ↦ absurd (no_earlier_fault text place other f g below) | inr above ↦ absurd (no_earlier_fault text other place g f above) ]
+]
+
+first_is_fault : (text : List ℕ) (fault : BadVersion) → IsFault text fault.place → version_of text ≡ Err fault
+first_is_fault text fault f =
+    (elim (version_of text) as (λ (r : Result (List ℕ) BadVersion). version_of text ≡ r → r ≡ Err fault) [
+      | Ok kept ↦ λ e. let read = read_is_spelled text kept e in absurd (f.no_version (parts_of kept, read.0, read.1))
+      | Err found ↦ λ e. let same = one_fault text found.place fault.place (fault_is_first text found e) f in
+        λ i. Err (record { place = same i })
+    ]) refl
+
+pub fault_exact : (text : List ℕ) (fault : BadVersion) → (version_of text ≡ Err fault) ↔ IsFault text fault.place
+fault_exact text fault = (fault_is_first text fault, first_is_fault text fault)

@@ -1,7 +1,7 @@
 -- Which version is below another, by the first place where they differ: Bazel, "Bazel modules", section "Version format"; SemVer 2.0.0, section 11.
 use Rattle.std.specs.Prelude.{◌≡◌, ℕ, ◌<◌, Bool, true, false, ◌⊎◌, List, [], ◌∷◌, ◌++◌, ⊤}
 use Rattle.bz_version.specs.Grammar.{Parts}
-use Rattle.bz_version.specs.Precedence.{is_numeric, number_of}
+use Rattle.bz_version.specs.Digits.{is_numeric, number_of}
 
 -- of two lists with no common front, the first one has ended, or begins with the lower item
 abbrev pub EndsOrLower : {X : Type 0} → (X → X → Type 0) → List X → List X → Type 0

@@ -6,16 +6,9 @@ use Rattle.std.specs.Ordering.{nat_cmp, ordering_then}
 use Rattle.std.specs.Cmp.Lexicographic.{slice_cmp}
 use Rattle.std.specs.declared.cmp.Ordering.{Ordering}
 use Rattle.std.specs.declared.cmp.Ordering.TheVariants.{Less, Equal, Greater}
+use Rattle.bz_version.specs.Digits.{is_numeric, number_of}
 use Rattle.bz_version.specs.Grammar.{Parts}
 use Rattle.bz_version.specs.Texts.{before, behind}
-
--- an identifier of digits alone
-abbrev pub is_numeric : List ℕ → Bool
-is_numeric identifier = list_all is_ascii_digit identifier
-
--- the number that digits write, of any size
-abbrev pub number_of : List ℕ → ℕ
-number_of digits = fold (λ number digit. number * 10 + (digit - 48)) 0 digits
 
 -- digits compare by number and then by bytes
 abbrev pub numeric_order : List ℕ → List ℕ → Ordering

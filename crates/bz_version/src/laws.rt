@@ -55,9 +55,16 @@ pub fn spelled_is_read()
 {
 }
 
-/// Where nothing is read, the grammar spells nothing, and the place is that of the first byte after which no version can follow, or the length.
+/// The text of a version is that of the version that is read from it.
+#[tactic(auto, using(crate::proofs::Readings::kept_is_read_again))]
+pub fn kept_text_is_read_again()
+    ensures { (text kept : List ℕ) → version_of text ≡ Ok kept → version_of kept ≡ Ok kept }
+{
+}
+
+/// Nothing is read exactly where the grammar spells nothing, and the place is that of the first byte after which no version can follow, or the length.
 pub fn fault_is_first()
-    ensures { (text : List ℕ) (fault : BadVersion) → version_of text ≡ Err fault → IsFault text fault.place }
+    ensures { (text : List ℕ) (fault : BadVersion) → (version_of text ≡ Err fault) ↔ IsFault text fault.place }
 {
 }
 

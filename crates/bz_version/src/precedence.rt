@@ -5,8 +5,8 @@ ghost use Rattle.std.specs.Option.{option_copied};
 ghost use Rattle.std.specs.Ordering.{nat_cmp};
 ghost use Rattle.std.specs.Cmp.Lexicographic.{slice_cmp};
 ghost use Rattle.bz_version.specs.Texts.{behind};
-ghost use Rattle.bz_version.specs.Digits.{significant};
-ghost use Rattle.bz_version.specs.Precedence.{identifier_order, identifiers, is_numeric, numeric_order, part_order, precedence, release_of};
+ghost use Rattle.bz_version.specs.Digits.{is_numeric, significant};
+ghost use Rattle.bz_version.specs.Precedence.{identifier_order, identifiers, numeric_order, part_order, precedence, release_of};
 
 use crate::cuts::cut;
 use std::cmp::Ordering;
