@@ -28,7 +28,7 @@ lists_less {X} {R} {Lower} k (x ∷ xs) (y ∷ ys) e =
     (elim (R x y) as (λ (o : Ordering). R x y ≡ o → ordering_then o (slice_cmp R xs ys) ≡ Less → DiffersBelow Lower (x ∷ xs) (y ∷ ys)) [
       | Less ↦ λ r e. record { common = []; rest = x ∷ xs; other_rest = y ∷ ys; first = refl; second = refl; below = k.less x y r }
       | Equal ↦ λ r e. let d = lists_less k xs ys e in
-        record { common = y ∷ d.common; rest = d.rest; other_rest = d.other_rest; first = λ i. k.same x y r i ∷ d.first i; second = ap (λ (l : List X). y ∷ l) d.second; below = d.below }
+          record { common = y ∷ d.common; rest = d.rest; other_rest = d.other_rest; first = λ i. k.same x y r i ∷ d.first i; second = ap (λ (l : List X). y ∷ l) d.second; below = d.below }
       | Greater ↦ λ r e. absurd (cc e)
     ]) refl e
 
@@ -118,4 +118,5 @@ version_lower first second (inl release) = rw (part_lower first.release second.r
 version_lower first second (inr tie) = rw (tie.0, tied_itself part_total second.release) (part_lower first.prerelease second.prerelease tie.1)
 
 pub below_at_first_difference : (first second : List ℕ) → (precedence first second ≡ Less) ↔ IsBelow (parts_of first) (parts_of second)
+unfolding precedence
 below_at_first_difference first second = (version_less (parts_of first) (parts_of second), version_lower (parts_of first) (parts_of second))

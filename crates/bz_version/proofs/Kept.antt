@@ -56,8 +56,8 @@ marked_absent (b ∷ rest) a = (refl, a)
 written_absent : (version : Parts) → AllByRecursion (IsIdentifier is_ascii_alphanumeric) version.release → AllByRecursion (IsIdentifier is_prerelease_byte) version.prerelease → Absent 43 (written version)
 written_absent version r p =
     AllByRecursion-append _ (dotted version.release) (marked 45 (dotted version.prerelease))
-        (dotted_absent is_ascii_alphanumeric 43 (avoids is_ascii_alphanumeric 43 refl) refl version.release r)
-        (marked_absent (dotted version.prerelease) (dotted_absent is_prerelease_byte 43 (avoids is_prerelease_byte 43 refl) refl version.prerelease p))
+    (dotted_absent is_ascii_alphanumeric 43 (avoids is_ascii_alphanumeric 43 refl) refl version.release r)
+    (marked_absent (dotted version.prerelease) (dotted_absent is_prerelease_byte 43 (avoids is_prerelease_byte 43 refl) refl version.prerelease p))
 
 before-build : (text build : List ℕ) → Absent 43 text → before 43 (text ++ marked 43 build) ≡ text
 before-build text [] a = rw append-nil (before-absent 43 text a)
@@ -84,7 +84,7 @@ parts_of-text ([] ∷ xs) prerelease r p alone = absurd r.0
 parts_of-text ((b ∷ x) ∷ xs) prerelease r p alone =
     let absent = dotted_absent is_ascii_alphanumeric 45 (avoids is_ascii_alphanumeric 45 refl) refl ((b ∷ x) ∷ xs) r in
     let front : slice_split (λ b. b == 46) (before 45 (dotted ((b ∷ x) ∷ xs) ++ marked 45 (dotted prerelease))) ≡ (b ∷ x) ∷ xs =
-      ap (slice_split (λ b. b == 46)) (before-prerelease (dotted ((b ∷ x) ∷ xs)) prerelease absent p) ∙ slice_split-dotted is_ascii_alphanumeric (avoids is_ascii_alphanumeric 46 refl) (b ∷ x) xs r in
+    ap (slice_split (λ b. b == 46)) (before-prerelease (dotted ((b ∷ x) ∷ xs)) prerelease absent p) ∙ slice_split-dotted is_ascii_alphanumeric (avoids is_ascii_alphanumeric 46 refl) (b ∷ x) xs r in
     let back = behind-prerelease (dotted ((b ∷ x) ∷ xs)) prerelease absent p in
     λ i. record { release = front i; prerelease = back i }
 

@@ -86,12 +86,14 @@ version_same v w e =
     λ i. record { release = release i; prerelease = prerelease i }
 
 precedence_total : IsTotalOrder precedence
+unfolding precedence
 precedence_total = on_total parts_of version_total
 
 pub precedence_itself : (text : List ℕ) → precedence text text ≡ Equal
 precedence_itself text = tied_itself precedence_total text
 
 pub precedence_same : (first second : List ℕ) → precedence first second ≡ Equal → first ≡ second
+unfolding precedence
 precedence_same first second e = parts_of-same first second (version_same (parts_of first) (parts_of second) e)
 
 pub precedence_turned : (first second : List ℕ) → precedence second first ≡ ordering_reverse (precedence first second)
@@ -101,5 +103,6 @@ pub precedence_chained : (first second third : List ℕ) → precedence first se
 precedence_chained first second third = precedence_total.trans first second third
 
 pub precedence_empty : (text : List ℕ) → text ≢ [] → precedence text [] ≡ Less
+unfolding precedence
 precedence_empty [] h = absurd (h refl)
 precedence_empty (b ∷ rest) h = rw (dots_cut (before 45 (b ∷ rest))) refl

@@ -43,6 +43,7 @@ cannot_follow text e c =
     both_ways _ unfinished (version_finishes _ c.1)
 
 fault_from-Some : (text : List ℕ) (fault : BadVersion) → version_of text ≡ Err fault → fault_from Start 0 text ≡ Some fault.place
+unfolding version_of
 fault_from-Some text fault e =
     (elim (fault_from Start 0 text) as (λ (o : Option ℕ). option_map_or {U = Result (List ℕ) BadVersion} (λ place. Err (record { place = place })) o (Ok (before 43 text)) ≡ Err fault → o ≡ Some fault.place) [
       | None ↦ λ e. absurd (cc e)
@@ -62,6 +63,7 @@ fault_is_first text fault e =
     }
 
 fault_from-None : (text kept : List ℕ) → version_of text ≡ Ok kept → (fault_from Start 0 text ≡ None) × (before 43 text ≡ kept)
+unfolding version_of
 fault_from-None text kept e =
     (elim (fault_from Start 0 text) as (λ (o : Option ℕ). option_map_or {U = Result (List ℕ) BadVersion} (λ place. Err (record { place = place })) o (Ok (before 43 text)) ≡ Ok kept → (o ≡ None) × (before 43 text ≡ kept)) [
       | None ↦ λ e. (refl, cc e)
@@ -69,6 +71,7 @@ fault_from-None text kept e =
     ]) e
 
 pub spelled_is_read : (text : List ℕ) (version : Parts) (build : List ℕ) → Spells text version build → (version_of text ≡ Ok (written version)) × (parts_of (written version) ≡ version)
+unfolding version_of
 spelled_is_read text version build s =
     let faultless = fault_from-finishes Start 0 text (spelled_finishes text version build s) in
     (rw (faultless, before-spelled text version build s) refl, parts_of-written text version build s)
@@ -126,7 +129,7 @@ first_is_fault text fault f =
     (elim (version_of text) as (λ (r : Result (List ℕ) BadVersion). version_of text ≡ r → r ≡ Err fault) [
       | Ok kept ↦ λ e. let read = read_is_spelled text kept e in absurd (f.no_version (parts_of kept, read.0, read.1))
       | Err found ↦ λ e. let same = one_fault text found.place fault.place (fault_is_first text found e) f in
-        λ i. Err (record { place = same i })
+          λ i. Err (record { place = same i })
     ]) refl
 
 pub fault_exact : (text : List ℕ) (fault : BadVersion) → (version_of text ≡ Err fault) ↔ IsFault text fault.place

@@ -90,8 +90,8 @@ release_dash b rest mark r = record {
   prerelease_identifiers = (r.first, r.identifiers);
   build_bytes = r.build_bytes;
   spelled =
-    ap (λ (l : List ℕ). b ∷ l) (r.spelled ∙ sym (append_assoc r.bytes (further r.others) (marked 43 r.build)))
-    ∙ ap (λ (l : List ℕ). l ++ marked 43 r.build) (prerelease_marked b r.bytes r.others mark r.first);
+      ap (λ (l : List ℕ). b ∷ l) (r.spelled ∙ sym (append_assoc r.bytes (further r.others) (marked 43 r.build)))
+      ∙ ap (λ (l : List ℕ). l ++ marked 43 r.build) (prerelease_marked b r.bytes r.others mark r.first);
 }
 
 release_dot : (b : ℕ) (rest : List ℕ) → (b == 46) ≡ true → ReleaseRest (IsIdentifier is_ascii_alphanumeric) rest → ReleaseRest (AllBytes is_ascii_alphanumeric) (b ∷ rest)
@@ -197,14 +197,17 @@ remains (b ∷ rest) Build f = elim (cases_Bool (is_build_byte b)) [
 version_of_rest : (text : List ℕ) → Remains Start text → IsVersion text
 version_of_rest text (inl none) =
     (record { release = []; prerelease = [] }, [], record { release = tt; prerelease = tt; build_bytes = tt; alone = λ e. (refl, refl); spelled = none })
-version_of_rest text (inr r) =
-    (record { release = r.bytes ∷ r.others; prerelease = r.prerelease }, r.build, record {
-      release = (r.first, r.identifiers);
-      prerelease = r.prerelease_identifiers;
-      build_bytes = r.build_bytes;
-      alone = λ e. absurd (cc e);
-      spelled = r.spelled ∙ rw (append_assoc (r.bytes ++ further r.others) (marked 45 (dotted r.prerelease)) (marked 43 r.build), append_assoc r.bytes (further r.others) (marked 45 (dotted r.prerelease) ++ marked 43 r.build)) refl;
-    })
+version_of_rest text (inr r) = (
+  record { release = r.bytes ∷ r.others; prerelease = r.prerelease },
+  r.build,
+  record {
+    release = (r.first, r.identifiers);
+    prerelease = r.prerelease_identifiers;
+    build_bytes = r.build_bytes;
+    alone = λ e. absurd (cc e);
+    spelled = r.spelled ∙ rw (append_assoc (r.bytes ++ further r.others) (marked 45 (dotted r.prerelease)) (marked 43 r.build), append_assoc r.bytes (further r.others) (marked 45 (dotted r.prerelease) ++ marked 43 r.build)) refl;
+  },
+)
 
 pub finishes_version : (text : List ℕ) → finishes Start text ≡ true → IsVersion text
 finishes_version text f = version_of_rest text (remains text Start f)

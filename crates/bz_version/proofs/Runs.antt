@@ -68,20 +68,20 @@ fault_at place index [] fault e =
     (elim (may_end place) as (λ (end : Bool). may_end place ≡ end → (if end then None else Some index) ≡ Some fault → FaultAt place index [] fault) [
       | true ↦ λ m e. absurd (cc e)
       | false ↦ λ m e. let same : index ≡ fault = cc e in
-        record { bytes = 0; is = omega arith; within = omega arith; next = place; goes_on = refl; stops = λ h. absurd (omega arith); unfinished = m }
+          record { bytes = 0; is = omega arith; within = omega arith; next = place; goes_on = refl; stops = λ h. absurd (omega arith); unfinished = m }
     ]) refl e
 fault_at place index (b ∷ rest) fault e =
     (elim (next_place place b) as (λ o. next_place place b ≡ o → option_map_or (λ next. fault_from next (index + 1) rest) o (Some index) ≡ Some fault → FaultAt place index (b ∷ rest) fault) [
       | None ↦ λ n e. let same : index ≡ fault = cc e in
-        record { bytes = 0; is = omega arith; within = omega arith; next = place; goes_on = refl; stops = λ h. rw n refl; unfinished = rw n refl }
+          record { bytes = 0; is = omega arith; within = omega arith; next = place; goes_on = refl; stops = λ h. rw n refl; unfinished = rw n refl }
       | Some next ↦ λ n e. let more = fault_at next (index + 1) rest fault e in
-        record {
-          bytes = suc more.bytes;
-          is = omega arith;
-          within = omega arith;
-          next = more.next;
-          goes_on = rw n more.goes_on;
-          stops = λ h. rw n (more.stops (omega arith));
-          unfinished = rw n more.unfinished;
-        }
+          record {
+            bytes = suc more.bytes;
+            is = omega arith;
+            within = omega arith;
+            next = more.next;
+            goes_on = rw n more.goes_on;
+            stops = λ h. rw n (more.stops (omega arith));
+            unfinished = rw n more.unfinished;
+          }
     ]) refl e

@@ -69,7 +69,7 @@ parts_finish : (release prerelease : List (List ℕ)) (build : List ℕ) → All
 parts_finish [] prerelease build r p a alone = rw ((alone refl).0, (alone refl).1) refl
 parts_finish (x ∷ xs) prerelease build r p a alone =
     rw (append_assoc (dotted (x ∷ xs)) (marked 45 (dotted prerelease)) (marked 43 build))
-        (finishes-append Start (dotted (x ∷ xs)) (marked 45 (dotted prerelease) ++ marked 43 build) ∙ rw (release_enters x xs r) (prerelease_ends prerelease build p a))
+    (finishes-append Start (dotted (x ∷ xs)) (marked 45 (dotted prerelease) ++ marked 43 build) ∙ rw (release_enters x xs r) (prerelease_ends prerelease build p a))
 
 pub spelled_finishes : (text : List ℕ) (version : Parts) (build : List ℕ) → Spells text version build → finishes Start text ≡ true
 spelled_finishes text version build s = rw s.spelled (parts_finish version.release version.prerelease build s.release s.prerelease s.build_bytes s.alone)

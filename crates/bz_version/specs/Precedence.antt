@@ -46,5 +46,5 @@ abbrev pub parts_of : List ℕ → Parts
 parts_of text = record { release = identifiers (release_of text); prerelease = identifiers (behind 45 text) }
 
 -- the precedence of versions by their texts without BUILD
-abbrev pub precedence : List ℕ → List ℕ → Ordering
+unfoldable pub precedence : List ℕ → List ℕ → Ordering
 precedence first second = version_order (parts_of first) (parts_of second)

@@ -42,5 +42,5 @@ fault_from place index [] = if may_end place then None else Some index
 fault_from place index (b ∷ rest) = option_map_or (λ next. fault_from next (index + 1) rest) (next_place place b) (Some index)
 
 -- the text without BUILD, or the place of the fault
-abbrev pub version_of : List ℕ → Result (List ℕ) BadVersion
+unfoldable pub version_of : List ℕ → Result (List ℕ) BadVersion
 version_of text = option_map_or (λ place. Err (record { place = place })) (fault_from Start 0 text) (Ok (before 43 text))

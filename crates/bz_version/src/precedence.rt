@@ -12,6 +12,7 @@ use crate::cuts::cut;
 use std::cmp::Ordering;
 
 /// The order of two texts without BUILD.
+#[tactic(auto, unfolding(crate::specs::Precedence::precedence))]
 pub fn order_of_texts(first: &str, second: &str) -> Ordering
     ensures { result ≡ precedence first.now second.now }
 {

@@ -34,6 +34,7 @@ impl Model for Version {
 
 impl Version {
     /// Reads a version.
+    #[tactic(auto, unfolding(crate::specs::Scan::version_of))]
     pub fn parse(alloc: Global, text: &str) -> May<Version, BadVersion>
         ensures { Gives (version_of text.now) result }
     {
