@@ -3,7 +3,7 @@ use Rattle.std.proofs.Common.{◌≡◌, ◌≢◌, ℕ, suc, ◌<◌, ◌==◌,
 use Rattle.std.proofs.lemmas.Bool.{cases_Bool, eqb-true}
 use Rattle.std.specs.List.{AllByRecursion, slice_split}
 use Rattle.bz_version.specs.Precedence.{identifiers}
-use Rattle.bz_version.specs.Texts.{before, behind}
+use Rattle.bz_version.specs.Texts.{before, behind, between_dots, dot}
 
 -- the text has no such mark
 abbrev pub Absent : ℕ → List ℕ → Type 0
@@ -36,9 +36,9 @@ behind-mark mark [] rest a = rw (eq-eqb mark mark refl) refl
 behind-mark mark (b ∷ front) rest a = rw a.0 (behind-mark mark front rest a.1)
 
 -- the first of the parts between dots, and the others
-pub dots_cut : (text : List ℕ) → slice_split (λ b. b == 46) text ≡ before 46 text ∷ identifiers (behind 46 text)
+pub dots_cut : (text : List ℕ) → between_dots text ≡ before dot text ∷ identifiers (behind dot text)
 dots_cut [] = refl
 dots_cut (b ∷ rest) = elim (cases_Bool (b == 46)) [
-  | inl dot ↦ rw dot refl
+  | inl same ↦ rw same refl
   | inr other ↦ rw (other, dots_cut rest) refl
 ]

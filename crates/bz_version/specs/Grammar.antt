@@ -2,15 +2,15 @@
 use Rattle.std.specs.Prelude.{◌≡◌, ℕ, ◌+◌, ◌<◌, ◌≤◌, length, take, ◌==◌, ◌||◌, Bool, true, List, [], ◌∷◌, ◌++◌}
 use Rattle.std.specs.Char.{is_ascii_alphanumeric}
 use Rattle.std.specs.List.{AllByRecursion}
-use Rattle.bz_version.specs.Texts.{dotted, marked}
+use Rattle.bz_version.specs.Texts.{dash, dot, dotted, marked, plus}
 
 -- PRERELEASE has dashes besides letters and digits
 abbrev pub is_prerelease_byte : ℕ → Bool
-is_prerelease_byte b = is_ascii_alphanumeric b || b == 45
+is_prerelease_byte b = is_ascii_alphanumeric b || b == dash
 
 -- BUILD has dots besides
 abbrev pub is_build_byte : ℕ → Bool
-is_build_byte b = is_prerelease_byte b || b == 46
+is_build_byte b = is_prerelease_byte b || b == dot
 
 -- one or more bytes of a kind
 abbrev pub IsIdentifier : (ℕ → Bool) → List ℕ → Type 0
@@ -24,7 +24,7 @@ pub record Parts : Type 0 where
 
 -- the text of a version without BUILD
 abbrev pub written : Parts → List ℕ
-written version = dotted version.release ++ marked 45 (dotted version.prerelease)
+written version = dotted version.release ++ marked dash (dotted version.prerelease)
 
 -- the text is RELEASE[-PRERELEASE][+BUILD]; without RELEASE nothing follows
 pub record Spells (text : List ℕ) (version : Parts) (build : List ℕ) : Type 0 where
@@ -32,7 +32,7 @@ pub record Spells (text : List ℕ) (version : Parts) (build : List ℕ) : Type 
   pub prerelease : AllByRecursion (IsIdentifier is_prerelease_byte) version.prerelease
   pub build_bytes : AllByRecursion (λ b. is_build_byte b ≡ true) build
   pub alone : version.release ≡ [] → (version.prerelease ≡ []) × (build ≡ [])
-  pub spelled : text ≡ written version ++ marked 43 build
+  pub spelled : text ≡ written version ++ marked plus build
 
 -- some version has the text
 abbrev pub IsVersion : List ℕ → Type 0

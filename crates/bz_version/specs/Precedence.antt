@@ -1,14 +1,14 @@
 -- The precedence of versions: Bazel, "Bazel modules", section "Version format"; SemVer 2.0.0, section 11.
 use Rattle.std.specs.Prelude.{ℕ, ◌+◌, ◌-◌, ◌*◌, ◌==◌, Bool, if◌then◌else◌, List, [], ◌∷◌, Option, Some, None, fold}
 use Rattle.std.specs.Char.{is_ascii_digit}
-use Rattle.std.specs.List.{list_all, slice_split}
+use Rattle.std.specs.List.{list_all}
 use Rattle.std.specs.Ordering.{nat_cmp, ordering_then}
 use Rattle.std.specs.Cmp.Lexicographic.{slice_cmp}
 use Rattle.std.specs.declared.cmp.Ordering.{Ordering}
 use Rattle.std.specs.declared.cmp.Ordering.TheVariants.{Less, Equal, Greater}
 use Rattle.bz_version.specs.Digits.{is_numeric, number_of}
 use Rattle.bz_version.specs.Grammar.{Parts}
-use Rattle.bz_version.specs.Texts.{before, behind}
+use Rattle.bz_version.specs.Texts.{before, behind, between_dots, dash}
 
 -- digits compare by number and then by bytes
 abbrev pub numeric_order : List ℕ → List ℕ → Ordering
@@ -34,16 +34,16 @@ version_order first second = ordering_then (part_order first.release second.rele
 -- what stands between the dots of a part, if there is that part
 abbrev pub identifiers : Option (List ℕ) → List (List ℕ)
 identifiers None = []
-identifiers (Some part) = slice_split (λ b. b == 46) part
+identifiers (Some part) = between_dots part
 
 -- RELEASE, which only the empty version lacks
 abbrev pub release_of : List ℕ → Option (List ℕ)
 release_of [] = None
-release_of (b ∷ rest) = Some (before 45 (b ∷ rest))
+release_of (b ∷ rest) = Some (before dash (b ∷ rest))
 
 -- the identifiers of a version's text without BUILD
 abbrev pub parts_of : List ℕ → Parts
-parts_of text = record { release = identifiers (release_of text); prerelease = identifiers (behind 45 text) }
+parts_of text = record { release = identifiers (release_of text); prerelease = identifiers (behind dash text) }
 
 -- the precedence of versions by their texts without BUILD
 unfoldable pub precedence : List ℕ → List ℕ → Ordering

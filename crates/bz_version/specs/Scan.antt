@@ -3,18 +3,18 @@ use Rattle.std.specs.Prelude.{ℕ, ◌+◌, ◌==◌, Bool, true, false, if◌th
 use Rattle.std.specs.Char.{is_ascii_alphanumeric}
 use Rattle.std.specs.Option.{option_map_or}
 use Rattle.bz_version.specs.Grammar.{is_prerelease_byte, is_build_byte}
-use Rattle.bz_version.specs.Texts.{before}
+use Rattle.bz_version.specs.Texts.{before, dash, dot, plus}
 use Rattle.bz_version.specs.declared.scanner.Place.{Place}
 use Rattle.bz_version.specs.declared.scanner.Place.TheVariants.{Start, ReleaseFirst, Release, PrereleaseFirst, Prerelease, BuildFirst, Build}
 use Rattle.bz_version.specs.declared.versions.BadVersion.{BadVersion}
 
 -- behind an identifier of RELEASE a further one, PRERELEASE or BUILD may begin
 abbrev pub release_mark : ℕ → Option Place
-release_mark b = if b == 46 then Some ReleaseFirst else (if b == 45 then Some PrereleaseFirst else (if b == 43 then Some BuildFirst else None))
+release_mark b = if b == dot then Some ReleaseFirst else (if b == dash then Some PrereleaseFirst else (if b == plus then Some BuildFirst else None))
 
 -- behind an identifier of PRERELEASE a further one or BUILD may begin
 abbrev pub prerelease_mark : ℕ → Option Place
-prerelease_mark b = if b == 46 then Some PrereleaseFirst else (if b == 43 then Some BuildFirst else None)
+prerelease_mark b = if b == dot then Some PrereleaseFirst else (if b == plus then Some BuildFirst else None)
 
 -- the place behind one more byte, where a version can go on with it
 abbrev pub next_place : Place → ℕ → Option Place
@@ -43,4 +43,4 @@ fault_from place index (b ∷ rest) = option_map_or (λ next. fault_from next (i
 
 -- the text without BUILD, or the place of the fault
 unfoldable pub version_of : List ℕ → Result (List ℕ) BadVersion
-version_of text = option_map_or (λ place. Err (record { place = place })) (fault_from Start 0 text) (Ok (before 43 text))
+version_of text = option_map_or (λ place. Err (record { place = place })) (fault_from Start 0 text) (Ok (before plus text))

@@ -1,10 +1,8 @@
 //! Compares versions by their identifiers.
-ghost use Rattle.std.specs.Prelude.{◌≡◌, ◌<◌, ◌==◌, ◌∷◌, true, IfSome, length};
-ghost use Rattle.std.specs.List.{slice_split};
+ghost use Rattle.std.specs.Prelude.{◌≡◌, ◌<◌, ◌∷◌, true, IfSome, length};
 ghost use Rattle.std.specs.Option.{option_copied};
-ghost use Rattle.std.specs.Ordering.{nat_cmp};
 ghost use Rattle.std.specs.Cmp.Lexicographic.{slice_cmp};
-ghost use Rattle.bz_version.specs.Texts.{behind};
+ghost use Rattle.bz_version.specs.Texts.{behind, between_dots, dash};
 ghost use Rattle.bz_version.specs.Digits.{is_numeric, significant};
 ghost use Rattle.bz_version.specs.Precedence.{identifier_order, identifiers, numeric_order, part_order, precedence, release_of};
 
@@ -13,18 +11,18 @@ use std::cmp::Ordering;
 
 /// The order of two texts without BUILD.
 #[tactic(auto, unfolding(crate::specs::Precedence::precedence))]
-pub fn order_of_texts(first: &str, second: &str) -> Ordering
+pub fn compare_versions(first: &str, second: &str) -> Ordering
     ensures { result ≡ precedence first.now second.now }
 {
     let (release, prerelease) = parts_of(first);
     let (other_release, other_prerelease) = parts_of(second);
-    order_of_parts(release, other_release).then(order_of_parts(prerelease, other_prerelease))
+    compare_parts(release, other_release).then(compare_parts(prerelease, other_prerelease))
 }
 
 /// RELEASE and PRERELEASE.
 fn parts_of(text: &str) -> (Option<&str>, Option<&str>)
     ensures release { option_copied result.0 ≡ release_of text.now }
-    ensures prerelease { option_copied result.1 ≡ behind 45 text.now }
+    ensures prerelease { option_copied result.1 ≡ behind dash text.now }
 {
     let (release, prerelease) = cut(text, '-');
     if text == "" {
@@ -34,28 +32,28 @@ fn parts_of(text: &str) -> (Option<&str>, Option<&str>)
 }
 
 #[tactic(auto, using(crate::proofs::Marks::dots_cut))]
-fn order_of_parts(first: Option<&str>, second: Option<&str>) -> Ordering
+fn compare_parts(first: Option<&str>, second: Option<&str>) -> Ordering
     ensures { result ≡ part_order (identifiers (option_copied first.entry)) (identifiers (option_copied second.entry)) }
 {
     match (first, second) {
         (None, None) => Ordering::Equal,
         (None, Some(_)) => Ordering::Greater,
         (Some(_), None) => Ordering::Less,
-        (Some(first), Some(second)) => order_of_identifiers(first, second),
+        (Some(first), Some(second)) => compare_dotted(first, second),
     }
 }
 
 /// The order of dotted identifiers.
 #[tactic(auto, using(crate::proofs::Marks::dots_cut))]
-fn order_of_identifiers(first: &str, second: &str) -> Ordering
-    ensures { result ≡ slice_cmp identifier_order (slice_split (λ b. b == 46) first.now) (slice_split (λ b. b == 46) second.now) }
+fn compare_dotted(first: &str, second: &str) -> Ordering
+    ensures { result ≡ slice_cmp identifier_order (between_dots first.now) (between_dots second.now) }
 {
     let mut rest = first;
     let mut other_rest = second;
     'identifiers: loop {
         let (identifier, more) = first_identifier(rest);
         let (other, other_more) = first_identifier(other_rest);
-        let order = order_of_identifier(identifier.as_bytes(), other.as_bytes());
+        let order = compare_identifiers(identifier.as_bytes(), other.as_bytes());
         if order.is_ne() {
             return order;
         }
@@ -74,17 +72,17 @@ fn order_of_identifiers(first: &str, second: &str) -> Ordering
 /// The identifier before the first dot, and what stands behind that dot.
 #[tactic(auto, using(crate::proofs::Marks::dots_cut))]
 fn first_identifier(text: &str) -> (&str, Option<&str>)
-    ensures split { slice_split (λ b. b == 46) text.now ≡ result.0.now ∷ identifiers (option_copied result.1) }
+    ensures split { between_dots text.now ≡ result.0.now ∷ identifiers (option_copied result.1) }
     ensures shorter { IfSome result.1 (λ rest. length rest.now < length text.now) }
 {
     cut(text, '.')
 }
 
-fn order_of_identifier(first: &[u8], second: &[u8]) -> Ordering
+fn compare_identifiers(first: &[u8], second: &[u8]) -> Ordering
     ensures { result ≡ identifier_order first.now second.now }
 {
     match (is_numeric(first), is_numeric(second)) {
-        (true, true) => order_of_digits(first, second),
+        (true, true) => compare_digits(first, second),
         (true, false) => Ordering::Less,
         (false, true) => Ordering::Greater,
         (false, false) => first.cmp(second),
@@ -99,7 +97,7 @@ fn is_numeric(identifier: &[u8]) -> bool
 
 /// Digits compare by number: of numbers without zeros in front the longer is the larger.
 #[tactic(auto, using(crate::proofs::Numbers::numeric_order_without_zeros))]
-fn order_of_digits(first: &[u8], second: &[u8]) -> Ordering
+fn compare_digits(first: &[u8], second: &[u8]) -> Ordering
     requires first { is_numeric first.now ≡ true }
     requires second { is_numeric second.now ≡ true }
     ensures { result ≡ numeric_order first.now second.now }

@@ -1,7 +1,6 @@
 //! Reads a text byte by byte, and tells where it stops being the front of a version.
-ghost use Rattle.std.specs.Prelude.{◌≡◌, ◌<◌, string_bytes};
-ghost use Rattle.std.specs.Option.{option_copied};
-ghost use Rattle.bz_version.specs.Texts.{before, behind};
+ghost use Rattle.std.specs.Prelude.{◌≡◌};
+ghost use Rattle.bz_version.specs.Texts.{before, plus};
 ghost use Rattle.bz_version.specs.Grammar.{is_prerelease_byte, is_build_byte};
 ghost use Rattle.bz_version.specs.Scan.{next_place, release_mark, prerelease_mark, may_end, fault_from};
 ghost use Rattle.bz_version.specs.declared.scanner.Place.TheVariants.{Start};
@@ -102,7 +101,7 @@ fn may_end(place: Place) -> bool
 
 /// The text before its first `+`.
 pub fn without_build(text: &str) -> &str
-    ensures { result.now ≡ before 43 text.now }
+    ensures { result.now ≡ before plus text.now }
 {
     cut(text, '+').0
 }
