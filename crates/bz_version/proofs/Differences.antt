@@ -1,14 +1,14 @@
 -- The precedence answers `Less` exactly where the first difference puts a version below another.
-use Rattle.std.proofs.Common.{◌≡◌, ℕ, ◌<◌, Bool, true, false, ◌⊎◌, ◌↔◌, List, [], ◌∷◌, ◌++◌, refl, sym, ap, ◌∙◌, arith, inl, inr}
+use Rattle.std.proofs.Common.{◌≡◌, ℕ, ◌<◌, ◌⊎◌, ◌↔◌, List, [], ◌∷◌, ◌++◌, refl, sym, ap, inl, inr}
 use Rattle.std.proofs.lemmas.Bool.{cases_Bool, lt-ltb}
 use Rattle.std.proofs.lemmas.Cmp.{nat_cmp_total, ranked, tied_itself}
 use Rattle.std.specs.Cmp.Lexicographic.{slice_cmp}
-use Rattle.std.specs.FinMap.{IsAntisymmetric, nat_cmp-IsAntisymmetric}
+use Rattle.std.specs.FinMap.{nat_cmp-IsAntisymmetric}
 use Rattle.std.specs.Ordering.{nat_cmp, ordering_then}
 use Rattle.std.specs.declared.cmp.Ordering.{Ordering}
 use Rattle.std.specs.declared.cmp.Ordering.TheVariants.{Less, Equal, Greater}
 use Rattle.bz_version.proofs.Orders.{identifier_same, identifier_total, part_same, part_total}
-use Rattle.bz_version.specs.Below.{DiffersBelow, EndsOrLower, IsBelow, IsBelowByKind, IsIdentifierBelow, IsNumberBelow, IsPartBelow, IsTextBelow}
+use Rattle.bz_version.specs.Below.{DiffersBelow, EndsOrLower, IsBelow, IsIdentifierBelow, IsNumberBelow, IsPartBelow}
 use Rattle.bz_version.specs.Grammar.{Parts}
 use Rattle.bz_version.specs.Digits.{is_numeric, number_of}
 use Rattle.bz_version.specs.Precedence.{identifier_order, numeric_order, part_order, parts_of, precedence, version_order}

@@ -1,10 +1,10 @@
 -- What is read is what is spelled, and the place of a fault is the first after which no version can follow.
-use Rattle.std.proofs.Common.{◌≡◌, ℕ, zero, suc, ◌<◌, ◌≤◌, ◌+◌, Bool, true, false, List, [], ◌∷◌, ◌++◌, length, take, Option, Some, None, Result, Ok, Err, refl, sym, ap, subst, ◌∙◌, append_assoc, append-nil, arith, ◌↔◌, inl, inr}
+use Rattle.std.proofs.Common.{◌≡◌, ℕ, zero, suc, ◌<◌, ◌≤◌, ◌+◌, true, false, List, [], ◌∷◌, ◌++◌, take, Option, Some, None, Result, Ok, Err, refl, sym, ap, subst, ◌∙◌, append_assoc, append-nil, arith, ◌↔◌, inl, inr}
 use Rattle.std.proofs.lemmas.Bool.{both_ways, cases_order}
 use Rattle.std.specs.Option.{option_map_or}
 use Rattle.bz_version.proofs.Kept.{before-spelled, parts_of-written}
 use Rattle.bz_version.proofs.Remains.{finishes_version}
-use Rattle.bz_version.proofs.Runs.{FaultAt, fault_at, fault_from-finishes, finishes, finishes-append, finishes-faultless, place_behind}
+use Rattle.bz_version.proofs.Runs.{fault_at, fault_from-finishes, finishes, finishes-append, finishes-faultless, place_behind}
 use Rattle.bz_version.proofs.Spelled.{spelled_finishes, version_finishes}
 use Rattle.bz_version.specs.Grammar.{CanFollow, IsFault, IsVersion, Parts, Spells, written}
 use Rattle.bz_version.specs.Precedence.{parts_of}
