@@ -1,10 +1,10 @@
-//! Laws of versions, each over all texts.
+//! Laws of the order and of the reading, each over all texts.
 ghost use Rattle.std.specs.Prelude.{◌≡◌, ◌≢◌, ◌↔◌, List, ℕ, [], Ok, Err};
 ghost use Rattle.std.specs.Ordering.{ordering_reverse};
 ghost use Rattle.std.specs.declared.cmp.Ordering.TheVariants.{Less, Equal};
-ghost use Rattle.bz_version.specs.Precedence.{parts_of, precedence};
-ghost use Rattle.bz_version.specs.Grammar.{IsFault, Parts, Spells, written};
 ghost use Rattle.bz_version.specs.Below.{IsBelow};
+ghost use Rattle.bz_version.specs.Grammar.{IsFault, Parts, Spells, written};
+ghost use Rattle.bz_version.specs.Precedence.{parts_of, precedence};
 ghost use Rattle.bz_version.specs.Scan.{version_of};
 ghost use Rattle.bz_version.specs.declared.versions.BadVersion.{BadVersion};
 
@@ -29,7 +29,8 @@ pub fn order_turns_round()
 /// What is below a version is below all that is above it.
 #[tactic(auto, using(crate::proofs::Orders::precedence_chained))]
 pub fn order_is_transitive()
-    ensures { (first second third : List ℕ) → precedence first second ≡ Less → precedence second third ≡ Less → precedence first third ≡ Less }
+    ensures { (first second third : List ℕ) → precedence first second ≡ Less → precedence second third ≡ Less
+        → precedence first third ≡ Less }
 {}
 
 /// Every version is below the empty one.
@@ -38,14 +39,21 @@ pub fn empty_version_is_above()
     ensures { (text : List ℕ) → text ≢ [] → precedence text [] ≡ Less }
 {}
 
+/// The order is decided at the first place where two versions differ.
+pub fn first_difference_decides()
+    ensures { (first second : List ℕ) → (precedence first second ≡ Less) ↔ IsBelow (parts_of first) (parts_of second) }
+{}
+
 /// What is read is spelled as the grammar has it, by the identifiers that the order sees.
 pub fn read_is_spelled()
-    ensures { (text kept : List ℕ) → version_of text ≡ Ok kept → (build : List ℕ) × Spells text (parts_of kept) build × (kept ≡ written (parts_of kept)) }
+    ensures { (text kept : List ℕ) → version_of text ≡ Ok kept
+        → (build : List ℕ) × Spells text (parts_of kept) build × (kept ≡ written (parts_of kept)) }
 {}
 
 /// What the grammar spells is read, and BUILD has no part in what is kept.
 pub fn spelled_is_read()
-    ensures { (text : List ℕ) (version : Parts) (build : List ℕ) → Spells text version build → (version_of text ≡ Ok (written version)) × (parts_of (written version) ≡ version) }
+    ensures { (text : List ℕ) (version : Parts) (build : List ℕ) → Spells text version build
+        → (version_of text ≡ Ok (written version)) × (parts_of (written version) ≡ version) }
 {}
 
 /// The text of a version is that of the version that is read from it.
@@ -57,9 +65,4 @@ pub fn kept_text_is_read_again()
 /// Nothing is read exactly where the grammar spells nothing, and the place is that of the first byte after which no version can follow, or the length.
 pub fn fault_is_first()
     ensures { (text : List ℕ) (fault : BadVersion) → (version_of text ≡ Err fault) ↔ IsFault text fault.place }
-{}
-
-/// The order is decided at the first place where two versions differ.
-pub fn first_difference_decides()
-    ensures { (first second : List ℕ) → (precedence first second ≡ Less) ↔ IsBelow (parts_of first) (parts_of second) }
 {}

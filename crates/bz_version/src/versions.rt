@@ -59,6 +59,13 @@ impl Version {
         self.text.as_str()
     }
 
+    /// The text, handed over.
+    pub fn into_text(self) -> Txt
+        ensures { result ≡ self }
+    {
+        self.text
+    }
+
     /// Whether this is the empty version, which is above every other.
     pub fn is_empty(&self) -> bool
         ensures { IsTrue result ↔ (self.now ≡ []) }
@@ -116,6 +123,7 @@ mod tests {
         let plain = Version::parse(alloc, "1")?;
         assert_eq!(rt; built.text(), "1");
         assert!(rt; built.order(&plain).is_eq());
+        assert_eq!(rt; built.into_text().as_str(), "1");
         assert_eq!(rt; Version::parse(alloc, "1-a.-+.-z")?.text(), "1-a.-");
         Ok(())
     }
