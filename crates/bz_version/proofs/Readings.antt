@@ -9,7 +9,7 @@ use Rattle.bz_version.proofs.Spelled.{spelled_finishes, version_finishes}
 use Rattle.bz_version.specs.Grammar.{CanFollow, IsFault, IsVersion, Parts, Spells, written}
 use Rattle.bz_version.specs.Precedence.{parts_of}
 use Rattle.bz_version.specs.Scan.{fault_from, version_of}
-use Rattle.bz_version.specs.Texts.{before}
+use Rattle.bz_version.specs.Texts.{before, plus}
 use Rattle.bz_version.specs.declared.scanner.Place.{Place}
 use Rattle.bz_version.specs.declared.scanner.Place.TheVariants.{Start, ReleaseFirst, Release, PrereleaseFirst, Prerelease, BuildFirst, Build}
 use Rattle.bz_version.specs.declared.versions.BadVersion.{BadVersion}
@@ -134,3 +134,8 @@ first_is_fault text fault f =
 
 pub fault_exact : (text : List ℕ) (fault : BadVersion) → (version_of text ≡ Err fault) ↔ IsFault text fault.place
 fault_exact text fault = (fault_is_first text fault, first_is_fault text fault)
+
+-- what a text without fault keeps is a version's text
+pub faultless_is_kept : (text kept : List ℕ) → None ≡ fault_from Start 0 text → kept ≡ before plus text → version_of kept ≡ Ok kept
+unfolding version_of
+faultless_is_kept text kept faultless same = kept_is_read_again text kept (rw (← faultless, same) refl)

@@ -1,7 +1,7 @@
 -- Which version is below another, by the first place where they differ: Bazel, "Bazel modules", section "Version format"; SemVer 2.0.0, section 11.
 use Rattle.std.specs.Prelude.{◌≡◌, ℕ, ◌<◌, Bool, true, false, ◌⊎◌, List, [], ◌∷◌, ◌++◌, ⊤}
-use Rattle.bz_version.specs.Grammar.{Parts}
 use Rattle.bz_version.specs.Digits.{is_numeric, number_of}
+use Rattle.bz_version.specs.Grammar.{Parts}
 
 -- of two lists with no common front, the first one has ended, or begins with the lower item
 abbrev pub EndsOrLower : {X : Type 0} → (X → X → Type 0) → List X → List X → Type 0
@@ -34,10 +34,11 @@ IsBelowByKind true false first second = ⊤
 IsBelowByKind false true first second = ⊥
 IsBelowByKind false false first second = IsTextBelow first second
 
+-- digits alone are below every other identifier
 abbrev pub IsIdentifierBelow : List ℕ → List ℕ → Type 0
 IsIdentifierBelow first second = IsBelowByKind (is_numeric first) (is_numeric second) first second
 
--- identifiers are below none, and else lists of them differ first
+-- a part is below one that is left out, and below another by their first different identifiers
 abbrev pub IsPartBelow : List (List ℕ) → List (List ℕ) → Type 0
 IsPartBelow [] ys = ⊥
 IsPartBelow (x ∷ xs) [] = ⊤

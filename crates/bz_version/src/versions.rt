@@ -1,5 +1,5 @@
 //! Versions.
-ghost use Rattle.std.specs.Prelude.{◌≡◌, ◌↔◌, [], IfOk, IsTrue};
+ghost use Rattle.std.specs.Prelude.{◌≡◌, ◌↔◌, [], IfOk, IsTrue, Ok};
 ghost use Rattle.bz_base.specs.Answers.{Gives};
 ghost use Rattle.bz_version.specs.Precedence.{precedence};
 ghost use Rattle.bz_version.specs.Scan.{version_of};
@@ -29,7 +29,12 @@ impl Model for Version {
 
     ghost Value = { List ℕ };
 
+    ghost use Rattle.std.specs.Prelude.{◌≡◌, Ok};
+    ghost use Rattle.bz_version.specs.Scan.{version_of};
+
     ghost view = { λ v. v.text };
+
+    ghost invariant = { λ v. version_of v.text ≡ Ok v.text };
 }
 
 impl Version {
@@ -53,8 +58,10 @@ impl Version {
         compare_versions(self.text(), other.text())
     }
 
+    /// The text without BUILD, from which this version is read.
     pub fn text(&self) -> &str
-        ensures { result.now ≡ self.now }
+        ensures same { result.now ≡ self.now }
+        ensures version { version_of self.now ≡ Ok self.now }
     {
         self.text.as_str()
     }
