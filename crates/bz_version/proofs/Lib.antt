@@ -1,0 +1,10 @@
+pub mod Differences
+pub mod Kept
+pub mod Marks
+pub mod Numbers
+pub mod Orders
+pub mod Readings
+pub mod Rebuilt
+pub mod Remains
+pub mod Runs
+pub mod Spelled
