@@ -1,5 +1,7 @@
 pub mod Commands
 pub mod Graphs
+pub mod LiteralForms
+pub mod LiteralLines
 pub mod Printing
 pub mod RootFiles
 pub mod Runs

@@ -3,6 +3,8 @@
 
 mod command;
 mod graph;
+mod literal_form;
+mod literal_line;
 mod printing;
 mod report;
 mod root_file;

@@ -1,9 +1,12 @@
 //! The root file.
-ghost use Rattle.std.specs.Prelude.{◌≡◌, ◌==◌, IfOk, codes};
-ghost use Rattle.std.specs.List.{list_all};
+ghost use Rattle.std.specs.Prelude.{◌≡◌, IfOk, Ok, codes};
+ghost use Rattle.std.specs.List.{list_any};
 ghost use Rattle.bz_base.specs.Answers.{Gives};
-ghost use Rattle.mod_command.specs.RootFiles.{form_refusal, no_root_refusal, root_of};
+ghost use Rattle.mod_command.specs.LiteralForms.{literal_lines};
+ghost use Rattle.mod_command.specs.RootFiles.{form_refusal, is_dep, no_root_refusal, root_of, root_of_lines};
 
+use crate::literal_form::read_lines;
+use crate::literal_line::LiteralLine;
 use bz_base::{Code, May, Mem, Miss, OutOfMemory, Refusal, TreePath, Txt};
 use bz_tree::Found;
 use std::alloc::Global;
@@ -24,16 +27,44 @@ pub(crate) fn read_root(alloc: Global, found: &Found) -> May<(), Refusal>
     ensures { Gives (root_of found.now) result }
 {
     match found {
-        Found::Bytes(bytes) if is_empty_lines(bytes.items()) => Ok(()),
-        Found::Bytes(_) | Found::Large => Err(Miss::Because(form(alloc))),
+        Found::Bytes(bytes) => read_bytes(alloc, bytes.items()),
+        Found::Large => Err(Miss::Because(form(alloc))),
         Found::Listing(_) | Found::Absent => Err(Miss::Because(no_root(alloc)?)),
     }
 }
 
-fn is_empty_lines(bytes: &[u8]) -> bool
-    ensures { result ≡ list_all (λ b. b == 10) bytes.now }
+fn read_bytes(alloc: Global, bytes: &[u8]) -> May<(), Refusal>
+    ensures { Gives (root_of_lines (literal_lines bytes.now)) result }
 {
-    bytes.iter().all(|b| *b == b'\n')
+    match read_lines(alloc, bytes) {
+        Ok(lines) => read_root_lines(alloc, lines.items()),
+        Err(Miss::OutOfMemory) => Err(Miss::OutOfMemory),
+        Err(Miss::Because(_)) => Err(Miss::Because(form(alloc))),
+    }
+}
+
+fn read_root_lines(alloc: Global, lines: &[LiteralLine]) -> May<(), Refusal>
+    ensures { Gives (root_of_lines (Ok lines.now)) result }
+{
+    if have_dep(lines) {
+        return Err(Miss::Because(form(alloc)));
+    }
+    Ok(())
+}
+
+fn have_dep(lines: &[LiteralLine]) -> bool
+    ensures { result ≡ list_any is_dep lines.now }
+{
+    lines.iter().any(is_dep_line)
+}
+
+fn is_dep_line(line: &LiteralLine) -> bool
+    ensures { result ≡ is_dep line.now }
+{
+    match line {
+        LiteralLine::Dep(_) => true,
+        LiteralLine::Module(_) | LiteralLine::Empty => false,
+    }
 }
 
 fn no_root(alloc: Global) -> Mem<Refusal>

@@ -130,6 +130,8 @@ mod tests {
 
     const DONE: &str = "0|<root>\n|modtool: ok, 0 evaluated, 0 reused\n";
 
+    const FORM: &str = "1||modtool: refused Form\n";
+
     #[test]
     fn answers_each_root_file(rt: HostRuntime) -> Result<(), Fail> {
         for (text, want) in [

@@ -1,0 +1,142 @@
+//! One line of a module file in the literal form.
+ghost use Rattle.std.specs.Prelude.{◌≡◌, [], ◌∷◌, IfNone, IfSome};
+ghost use Rattle.std.specs.Char.{is_ascii_digit, is_ascii_lowercase};
+ghost use Rattle.std.specs.List.{list_all};
+ghost use Rattle.bz_base.specs.Answers.{Gives};
+ghost use Rattle.mod_command.specs.LiteralLines.{is_module_name, is_name_byte, key_of, line_of, line_of_pieces, line_with, pieces_of};
+
+use bz_base::{Key, May, Miss, Txt};
+use bz_version::Version;
+use std::alloc::Global;
+
+/// A line of a module file in the literal form.
+#[derive(Debug, Drop)]
+pub(crate) enum LiteralLine {
+    Empty,
+    Module(Key),
+    Dep(Key),
+}
+
+/// The text hasn't the literal form.
+#[derive(Clone, Copy, Debug, PartialEq, Eq)]
+pub(crate) struct NotLiteral;
+
+/// Reads a line, without its line feed.
+pub(crate) fn read_line(alloc: Global, text: &str) -> May<LiteralLine, NotLiteral>
+    ensures { Gives (line_of text.now) result }
+{
+    if text.is_empty() {
+        return Ok(LiteralLine::Empty);
+    }
+    read_pieces(alloc, text)
+}
+
+/// Reads a directive, whose texts stand between the quotes.
+fn read_pieces(alloc: Global, text: &str) -> May<LiteralLine, NotLiteral>
+    ensures { Gives (line_of_pieces (pieces_of text.now)) result }
+{
+    let Some((front, rest)) = cut(text) else {
+        return Err(Miss::Because(NotLiteral));
+    };
+    let Some((name, rest)) = cut(rest) else {
+        return Err(Miss::Because(NotLiteral));
+    };
+    let Some((middle, rest)) = cut(rest) else {
+        return Err(Miss::Because(NotLiteral));
+    };
+    let Some((version, tail)) = cut(rest) else {
+        return Err(Miss::Because(NotLiteral));
+    };
+    let None = cut(tail) else {
+        return Err(Miss::Because(NotLiteral));
+    };
+    if middle != ", version = " {
+        return Err(Miss::Because(NotLiteral));
+    }
+    if tail != ")" {
+        return Err(Miss::Because(NotLiteral));
+    }
+    read_directive(alloc, front, name, version)
+}
+
+/// The text before the first quote and the one behind it.
+fn cut(text: &str) -> Option<(&str, &str)>
+    ensures only { IfNone result (pieces_of text.now ≡ text.now ∷ []) }
+    ensures first { IfSome result (λ parts. pieces_of text.now ≡ parts.0.now ∷ pieces_of parts.1.now) }
+{
+    text.split_once('"')
+}
+
+fn read_directive(
+    alloc: Global,
+    front: &str,
+    name: &str,
+    version: &str,
+) -> May<LiteralLine, NotLiteral>
+    ensures { Gives (line_with front.now (key_of name.now version.now)) result }
+{
+    let key = read_key(alloc, name, version)?;
+    if front == "module(name = " {
+        return Ok(LiteralLine::Module(key));
+    }
+    if front == "bazel_dep(name = " {
+        return Ok(LiteralLine::Dep(key));
+    }
+    Err(Miss::Because(NotLiteral))
+}
+
+/// The key of a module name and a version, neither of them empty.
+fn read_key(alloc: Global, name: &str, version: &str) -> May<Key, NotLiteral>
+    ensures { Gives (key_of name.now version.now) result }
+{
+    if !names_module(name) {
+        return Err(Miss::Because(NotLiteral));
+    }
+    let version = match Version::parse(alloc, version) {
+        Ok(version) => version.into_text(),
+        Err(Miss::OutOfMemory) => return Err(Miss::OutOfMemory),
+        Err(Miss::Because(_)) => return Err(Miss::Because(NotLiteral)),
+    };
+    if version.as_str().is_empty() {
+        return Err(Miss::Because(NotLiteral));
+    }
+    let name = Txt::of(alloc, name)?;
+    Ok(Key { name, version })
+}
+
+/// Whether the text is a module name.
+fn names_module(text: &str) -> bool
+    ensures { result ≡ is_module_name text.now }
+{
+    let bytes = text.as_bytes();
+    match (bytes.first(), bytes.last()) {
+        (Some(first), Some(last)) => {
+            has_name_bytes(bytes) && is_letter(*first) && (is_letter(*last) || is_digit(*last))
+        }
+        _ => false,
+    }
+}
+
+fn has_name_bytes(bytes: &[u8]) -> bool
+    ensures { result ≡ list_all is_name_byte bytes.now }
+{
+    bytes.iter().all(|b| may_stand_in_name(*b))
+}
+
+fn may_stand_in_name(b: u8) -> bool
+    ensures { result ≡ is_name_byte b }
+{
+    is_letter(b) || is_digit(b) || b == b'.' || b == b'-' || b == b'_'
+}
+
+fn is_letter(b: u8) -> bool
+    ensures { result ≡ is_ascii_lowercase b }
+{
+    b >= b'a' && b <= b'z'
+}
+
+fn is_digit(b: u8) -> bool
+    ensures { result ≡ is_ascii_digit b }
+{
+    b >= b'0' && b <= b'9'
+}
