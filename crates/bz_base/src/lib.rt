@@ -8,6 +8,8 @@ pub mod labels;
 pub mod memory;
 pub mod module_graph;
 pub mod module_key;
+pub mod plain_copies;
+pub mod plain_equality;
 pub mod plain_values;
 pub mod refusals;
 pub mod sequence;
