@@ -1,5 +1,5 @@
 -- Cuts of plain lists.
-use Rattle.std.proofs.Common.{◌≡◌, ◌≢◌, ℕ, suc, ◌<◌, Bool, true, false, List, [], ◌∷◌, ◌++◌, length, get_or, Option, None, Some, option_map, IfNone, IfSome, MatchOption, if◌then◌else◌, refl, ap, ◌∙◌, sym, arith}
+use Rattle.std.proofs.Common.{◌≡◌, ◌≢◌, ℕ, suc, ◌<◌, Bool, true, false, List, [], ◌∷◌, ◌++◌, length, get_or, Option, None, Some, option_map, IfNone, IfSome, MatchOption, if◌then◌else◌, refl, ap, ◌∙◌, arith}
 use Rattle.std.proofs.lemmas.Bool.{eqb-true, eq-eqb, ne_eqb, cond-true, cond-false}
 use Rattle.std.proofs.Math.Dec.{eqb}
 use denote.Ref.{Bor}
@@ -34,6 +34,7 @@ IsCut-cut mark (b ∷ bs) = first (eqb b mark) (IsCut-cut mark bs) refl
     rest : eqb b mark ≡ false → (r : Option (List ℕ × List ℕ)) → IsCut mark bs r → IsCut mark (b ∷ bs) (option_map (λ parts. (b ∷ parts.0, parts.1)) r)
     rest e None lacks = (e, lacks)
     rest e (Some parts) h = (ap (λ xs. b ∷ xs) h.0, (e, h.1))
+
     first : (t : Bool) → IsCut mark bs (cut mark bs) → eqb b mark ≡ t → IsCut mark (b ∷ bs) (if t then Some ([], bs) else option_map (λ parts. (b ∷ parts.0, parts.1)) (cut mark bs))
     first true further e = (ap (λ x. x ∷ bs) (eqb-true b mark e), tt)
     first false further e = rest e (cut mark bs) further

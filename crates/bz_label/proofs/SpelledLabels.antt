@@ -1,10 +1,9 @@
 -- A text falls apart into a label's parts exactly where the grammar has it.
-use Rattle.std.proofs.Common.{◌≡◌, ℕ, Bool, true, false, ◌&&◌, List, [], ◌∷◌, ◌++◌, Result, Ok, Err, Option, None, Some, MatchOption, MatchResult, IfOk, IsTrue, option_map, option_and_then, if◌then◌else◌, refl, ap, ◌∙◌, sym, subst}
+use Rattle.std.proofs.Common.{◌≡◌, ℕ, Bool, true, false, ◌&&◌, List, [], ◌∷◌, ◌++◌, Result, Ok, Err, Option, None, Some, MatchOption, IfOk, IsTrue, option_map, option_and_then, refl, ap, ◌∙◌, sym, subst}
 use Rattle.std.proofs.lemmas.Bool.{and_parts, and_from, cond-true, cond-false, cond_both, ne_eqb, true≢false}
 use Rattle.std.proofs.lemmas.List.Splits.{slice_split-cons_yes}
 use Rattle.std.proofs.Math.Dec.{eqb}
 use Rattle.std.specs.List.{list_all}
-use Rattle.std.specs.Str.{bytes_eq}
 use Rattle.bz_base.specs.Answers.{Gives}
 use Rattle.bz_base.specs.Names.{is_apparent, is_apparent_byte, is_canonical, is_canonical_byte, is_label_byte, is_package, is_segment, is_segmented}
 use Rattle.bz_base.specs.Paths.{segments_of}
@@ -17,7 +16,7 @@ use Rattle.bz_label.specs.declared.label_text.RepoPart.TheVariants.{Home, Appare
 use Rattle.bz_label.specs.Cuts.{behind, cut, cut_at_root}
 use Rattle.bz_label.specs.Grammar as grammar
 use Rattle.bz_label.specs.Grammar.{SpellsLabel, is_repo, repo_text}
-use Rattle.bz_label.specs.Parts.{alone_parts, apparent_repo, at_home, bad_label, canonical_repo, home_or_elsewhere, label_parts, last_segment, marked_repo, named_target, package_target, repo_alone, repo_named, repo_of, repo_parts, rooted_parts, rootless_or_rooted, target_parts, unmarked_repo}
+use Rattle.bz_label.specs.Parts.{alone_parts, at_home, bad_label, home_or_elsewhere, label_parts, last_segment, marked_repo, repo_of, repo_parts, rooted_parts, rootless_or_rooted, target_parts, unmarked_repo}
 use Rattle.bz_label.proofs.CutLists.{IsBehind, IsBehind-behind, IsCut, IsCut-cut, Lacks, cut-at, cut-none}
 use Rattle.bz_label.proofs.SegmentLists.{segments_of-joined}
 
@@ -89,6 +88,7 @@ IsRooted-cut_at_root text = by (cut 47 text) (IsCut-cut 47 text)
     further : (front rest : List ℕ) → text ≡ front ++ 47 ∷ rest → (r : Option (List ℕ)) → IsBehind 47 rest r → IsRooted text (option_map (λ target. (front, target)) r)
     further front rest e None h = tt
     further front rest e (Some target) h = e ∙ ap (λ t. front ++ 47 ∷ t) h
+
     by : (r : Option (List ℕ × List ℕ)) → IsCut 47 text r → IsRooted text (option_and_then rooted_rest r)
     by None h = tt
     by (Some parts) h = further parts.0 parts.1 h.0 (behind 47 parts.1) (IsBehind-behind 47 parts.1)

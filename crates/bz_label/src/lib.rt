@@ -3,6 +3,10 @@
 
 mod cuts;
 pub mod label_text;
+pub mod mapping;
 mod names;
+pub mod resolution;
 
 pub use label_text::{BadLabel, LabelText, RepoPart};
+pub use mapping::{Mapping, Taken};
+pub use resolution::{LabelMiss, resolve};
