@@ -1,5 +1,5 @@
 -- What holds of a graph of module versions, and of what is selected of it.
-use Rattle.std.specs.Prelude.{◌≡◌, ◌≢◌, ◌<◌, false, List, [], ◌∷◌, length, slice_get, IsTrue, IfSome, IsSomeAnd, All, AllPairs, Any}
+use Rattle.std.specs.Prelude.{◌≡◌, ◌≢◌, ◌<◌, false, List, [], ◌∷◌, length, slice_get, IsTrue, IsSomeAnd, All, AllPairs, Any}
 use Rattle.bz_base.specs.declared.module_graph.Chosen.{Chosen}
 use Rattle.bz_base.specs.declared.module_graph.Graph.{Graph}
 use Rattle.bz_base.specs.declared.module_graph.GraphNode.{GraphNode}

@@ -1,5 +1,5 @@
 -- Names of modules, repositories and what lies in them: Bazel's "Bazel modules", "External dependencies overview" and "Labels".
-use Rattle.std.specs.Prelude.{ℕ, Bool, true, false, not, ◌||◌, ◌&&◌, ◌==◌, nat_lt, List, [], ◌∷◌, bytes_eq}
+use Rattle.std.specs.Prelude.{ℕ, Bool, false, not, ◌||◌, ◌&&◌, ◌==◌, nat_lt, List, [], ◌∷◌, bytes_eq}
 use Rattle.std.specs.List.{list_all}
 use Rattle.std.specs.Char.{is_ascii_digit, is_ascii_lowercase, is_ascii_alphabetic, is_ascii_alphanumeric}
 use Rattle.bz_base.specs.Paths.{segments_of, stays, goes_up}

@@ -51,10 +51,12 @@ fn pairs_equal(left: &[PlainPair], right: &[PlainPair]) -> bool
 {
     let mut rest = right;
     for pair in left {
-        let [other, further @ ..] = rest else {
+        let [other_pair, further @ ..] = rest else {
             return false;
         };
-        if !plains_equal(&pair.key, &other.key) || !plains_equal(&pair.value, &other.value) {
+        if !plains_equal(&pair.key, &other_pair.key)
+            || !plains_equal(&pair.value, &other_pair.value)
+        {
             return false;
         }
         rest = further;

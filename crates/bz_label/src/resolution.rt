@@ -77,3 +77,59 @@ fn visible_repo(alloc: Global, map: &Mapping, apparent: Txt) -> May<Txt, LabelMi
         None => Err(Miss::Because(LabelMiss::NotVisible { apparent })),
     }
 }
+
+#[cfg(test)]
+mod tests {
+    use super::*;
+    use std::process::Abort;
+    use std::test::Fail;
+
+    fn home_file(alloc: Global) -> Result<Label, Fail> {
+        Ok(Label {
+            repo: Txt::of(alloc, "h+")?,
+            package: Txt::of(alloc, "p")?,
+            name: Txt::of(alloc, "f")?,
+        })
+    }
+
+    fn means(
+        rt: &impl Abort,
+        alloc: Global,
+        text: &str,
+        want: (&str, &str, &str),
+    ) -> Result<(), Fail> {
+        let mut map = Mapping::new(alloc);
+        map.add(alloc, Txt::of(alloc, "e")?, Txt::of(alloc, "e+")?)?;
+        let label = resolve(alloc, &map, &home_file(alloc)?, text)?;
+        assert_eq!(rt; label.repo.as_str(), want.0);
+        assert_eq!(rt; label.package.as_str(), want.1);
+        assert_eq!(rt; label.name.as_str(), want.2);
+        Ok(())
+    }
+
+    #[test]
+    fn labels_as_seen_from_a_file(rt: HostRuntime) -> Result<(), Fail> {
+        let alloc = rt.alloc();
+        means(&rt, alloc, ":x", ("h+", "p", "x"))?;
+        means(&rt, alloc, "x/y", ("h+", "p", "x/y"))?;
+        means(&rt, alloc, "//a/b", ("h+", "a/b", "b"))?;
+        means(&rt, alloc, "@@//:x", ("", "", "x"))?;
+        means(&rt, alloc, "@e", ("e+", "", "e"))?;
+        means(&rt, alloc, "@e//a:b", ("e+", "a", "b"))
+    }
+
+    #[test]
+    fn texts_that_mean_nothing(rt: HostRuntime) -> Result<(), Fail> {
+        let alloc = rt.alloc();
+        let map = Mapping::new(alloc);
+        let home = home_file(alloc)?;
+        for text in ["//a//b", "//a/..:x", "", "@", "@@.", "//", "//a:", "@h"] {
+            let miss = resolve(alloc, &map, &home, text);
+            let hidden = matches!(&miss, Err(Miss::Because(LabelMiss::NotVisible { .. })));
+            let bad = matches!(&miss, Err(Miss::Because(LabelMiss::BadLabel)));
+            assert_eq!(rt; hidden, text == "@h");
+            assert_eq!(rt; bad, text != "@h");
+        }
+        Ok(())
+    }
+}
