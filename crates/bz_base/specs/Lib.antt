@@ -5,4 +5,5 @@ pub mod Graphs
 pub mod Labels
 pub mod Names
 pub mod Paths
+pub mod PlainTexts
 pub mod Refusals
