@@ -1,6 +1,7 @@
 -- Repository mappings as lists of pairs of an apparent and a canonical name: Bazel's "External dependencies overview", "Repository mapping".
-use Rattle.std.specs.Prelude.{ℕ, ◌≢◌, List, [], ◌∷◌, Option, None, Some, String, string_bytes, bytes_eq, map, if◌then◌else◌, AllPairs}
+use Rattle.std.specs.Prelude.{ℕ, ◌≢◌, List, [], ◌∷◌, Option, None, Some, String, string_bytes, bytes_eq, map, if◌then◌else◌, IsTrue, All, AllPairs}
 use Rattle.std.specs.declared.alloc.Global.{Global}
+use Rattle.bz_base.specs.Names.{is_apparent, is_canonical}
 use Rattle.bz_label.specs.declared.mapping.Taken.{Taken}
 
 -- that an apparent name is there already
@@ -25,3 +26,7 @@ put apparent canonical (pair ∷ pairs) =
 -- no two pairs have one apparent name
 abbrev pub NamesDiffer : List (List ℕ × List ℕ) → Type 0
 NamesDiffer pairs = AllPairs (λ one other. one.0 ≢ other.0) pairs
+
+-- what may be put into a mapping: apparent and canonical names as labels have them
+abbrev pub AreNames : List (List ℕ × List ℕ) → Type 0
+AreNames pairs = All (λ pair. IsTrue (is_apparent pair.0) × IsTrue (is_canonical pair.1)) pairs
