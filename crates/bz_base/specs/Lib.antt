@@ -1,4 +1,9 @@
 pub mod Answers
 pub mod Counts
+pub mod Digests
+pub mod Graphs
+pub mod Labels
+pub mod Names
 pub mod Paths
+pub mod PlainTexts
 pub mod Refusals

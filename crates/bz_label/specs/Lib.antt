@@ -1,0 +1,5 @@
+pub mod Cuts
+pub mod Grammar
+pub mod Mappings
+pub mod Parts
+pub mod Resolution

@@ -1,0 +1,12 @@
+//! Labels as they are written, and what they mean under a repository mapping.
+#![tactic(auto)]
+
+mod cuts;
+pub mod label_text;
+pub mod mapping;
+mod names;
+pub mod resolution;
+
+pub use label_text::{BadLabel, LabelText, RepoPart};
+pub use mapping::{Mapping, Taken};
+pub use resolution::{LabelMiss, resolve};

@@ -1,0 +1,114 @@
+//! Repository mappings.
+ghost use Rattle.std.specs.Prelude.{◌≡◌, ◌<◌, ◌++◌, [], ◌∷◌, Err, None, Some, IsSome, OnOk, OnErr, length, slice_get};
+ghost use Rattle.std.specs.Option.{option_copied};
+ghost use Rattle.bz_base.specs.declared.memory.Miss.TheVariants.{Because};
+ghost use Rattle.bz_label.specs.Mappings.{NamesDiffer, found, put, taken_name};
+
+use bz_base::{May, Mem, Miss, OutOfMemory, Txt};
+use indexmap::IndexMap;
+use std::alloc::Global;
+use std::marker::Model;
+
+/// The apparent name is there already.
+#[derive(Clone, Copy, Debug, PartialEq, Eq)]
+pub struct Taken;
+
+/// A map from apparent to canonical repository names. Contracts see it as the list of its pairs, in the order in which their apparent names were put.
+#[derive(Drop)]
+pub struct Mapping {
+    names: IndexMap<String, Txt>,
+}
+
+impl Model for Mapping {
+    ghost use Rattle.std.specs.Prelude.{List, ℕ};
+    ghost use Rattle.bz_label.specs.Mappings.{pairs_of};
+
+    ghost Value = { List (List ℕ × List ℕ) };
+
+    ghost view = { λ m. pairs_of m.names.entries };
+}
+
+impl Mapping {
+    /// The empty mapping, which keeps the allocator.
+    pub fn new(alloc: Global) -> Mapping
+        ensures { result ≡ [] }
+    {
+        Mapping {
+            names: IndexMap::new(alloc),
+        }
+    }
+
+    /// Puts a new name at the end.
+    pub fn add(&mut self, alloc: Global, apparent: Txt, canonical: Txt) -> May<(), Taken>
+        ensures added { OnOk result (self.new ≡ self.old ++ (apparent, canonical) ∷ []) }
+        ensures was_absent { OnOk result (found apparent self.old ≡ None) }
+        ensures taken { result ≡ Err (Because taken_name) → IsSome (found apparent self.old) }
+        ensures unchanged { OnErr result (self.new ≡ self.old) }
+    {
+        if self.get(apparent.as_str()).is_some() {
+            return Err(Miss::Because(Taken));
+        }
+        self.set(alloc, apparent, canonical)?;
+        Ok(())
+    }
+
+    /// Puts a new name at the end, or another canonical name where the apparent one stands.
+    pub fn set(&mut self, _alloc: Global, apparent: Txt, canonical: Txt) -> Mem<()>
+        ensures ok { OnOk result (self.new ≡ put apparent canonical self.old) }
+        ensures unchanged { OnErr result (self.new ≡ self.old) }
+    {
+        match self.names.insert(apparent.into_string(), canonical) {
+            Ok(_) => Ok(()),
+            Err(_) => Err(OutOfMemory),
+        }
+    }
+
+    pub fn get(&self, apparent: &str) -> Option<&Txt>
+        ensures { option_copied result ≡ found apparent.now self.now }
+    {
+        self.names.get(apparent)
+    }
+
+    pub fn len(&self) -> usize
+        ensures count { result ≡ length self.now }
+        ensures differ { NamesDiffer self.now }
+    {
+        self.names.len()
+    }
+
+    /// The pair at a place.
+    pub fn at(&self, place: usize) -> (&str, &Txt)
+        requires { place < length self.now }
+        ensures { slice_get self.now place ≡ Some (result.0.now, result.1.now) }
+    {
+        match self.names.get_index(place) {
+            Some((apparent, canonical)) => (apparent.as_str(), canonical),
+            None => unreachable!(),
+        }
+    }
+}
+
+#[cfg(test)]
+mod tests {
+    use super::*;
+    use std::test::Fail;
+
+    #[test]
+    fn names_keep_their_places(rt: HostRuntime) -> Result<(), Fail> {
+        let alloc = rt.alloc();
+        let mut map = Mapping::new(alloc);
+        map.add(alloc, Txt::of(alloc, "b")?, Txt::of(alloc, "b+")?)?;
+        map.set(alloc, Txt::of(alloc, "a")?, Txt::of(alloc, "a+")?)?;
+        map.set(alloc, Txt::of(alloc, "b")?, Txt::of(alloc, "b+2")?)?;
+        let again = map.add(alloc, Txt::of(alloc, "a")?, Txt::of(alloc, "c+")?);
+        assert!(rt; matches!(again, Err(Miss::Because(Taken))));
+        assert_eq!(rt; map.len(), 2);
+        let (apparent, canonical) = map.at(0);
+        assert_eq!(rt; apparent, "b");
+        assert_eq!(rt; canonical.as_str(), "b+2");
+        let found = map.get("a").ok_or("a")?;
+        assert_eq!(rt; found.as_str(), "a+");
+        assert!(rt; map.get("c").is_none());
+        Ok(())
+    }
+}

@@ -1,0 +1,135 @@
+//! What a label's text means in its home.
+ghost use Rattle.std.specs.Prelude.{◌≡◌, IfOk, List, ℕ, Err};
+ghost use Rattle.bz_base.specs.Answers.{Gives};
+ghost use Rattle.bz_base.specs.declared.memory.Miss.TheVariants.{Because};
+ghost use Rattle.bz_label.specs.Grammar.{SpellsLabel};
+ghost use Rattle.bz_label.specs.Resolution.{Hides, Resolves, canonical_of, placed, resolved, visible};
+ghost use Rattle.bz_label.specs.Mappings.{found};
+ghost use Rattle.bz_label.specs.declared.label_text.LabelText.{LabelText as Parts};
+
+use crate::label_text::{LabelText, RepoPart};
+use crate::mapping::Mapping;
+use bz_base::{Label, May, Miss, Txt};
+use std::alloc::Global;
+
+/// Why a text names nothing: it is no label, or its apparent name is none of the mapping.
+#[derive(Debug, Drop)]
+pub enum LabelMiss {
+    BadLabel,
+    NotVisible { apparent: Txt },
+}
+
+/// The label that a text means in its home, under the mapping of the home's repository.
+pub fn resolve(alloc: Global, map: &Mapping, home: &Label, text: &str) -> May<Label, LabelMiss>
+    ensures exact { Gives (resolved map.now home.now text.now) result }
+    ensures label { IfOk result (λ label. Resolves map.now home.now text.now label) }
+    ensures bad_label { result ≡ Err (Because LabelMiss.BadLabel) → (parts : Parts) → ¬ SpellsLabel text.now parts }
+    ensures not_visible { (apparent : List ℕ) → result ≡ Err (Because (LabelMiss.NotVisible apparent)) → Hides map.now text.now apparent }
+{
+    meaning(alloc, map, home, text)
+}
+
+fn meaning(alloc: Global, map: &Mapping, home: &Label, text: &str) -> May<Label, LabelMiss>
+    ensures { Gives (resolved map.now home.now text.now) result }
+{
+    match LabelText::parse(alloc, text) {
+        Ok(parts) => place(alloc, map, home, parts),
+        Err(Miss::Because(_)) => Err(Miss::Because(LabelMiss::BadLabel)),
+        Err(Miss::OutOfMemory) => Err(Miss::OutOfMemory),
+    }
+}
+
+fn place(alloc: Global, map: &Mapping, home: &Label, parts: LabelText) -> May<Label, LabelMiss>
+    ensures { Gives (placed home.now parts (canonical_of map.now home.now parts.repo)) result }
+{
+    let LabelText {
+        repo,
+        package,
+        name,
+    } = parts;
+    let repo = canonical_repo(alloc, map, home, repo)?;
+    let package = match package {
+        Some(package) => package,
+        None => home.package.copy(alloc)?,
+    };
+    Ok(Label {
+        repo,
+        package,
+        name,
+    })
+}
+
+fn canonical_repo(alloc: Global, map: &Mapping, home: &Label, repo: RepoPart) -> May<Txt, LabelMiss>
+    ensures { Gives (canonical_of map.now home.now repo) result }
+{
+    match repo {
+        RepoPart::Home => Ok(home.repo.copy(alloc)?),
+        RepoPart::Apparent(apparent) => visible_repo(alloc, map, apparent),
+        RepoPart::Canonical(canonical) => Ok(canonical),
+    }
+}
+
+fn visible_repo(alloc: Global, map: &Mapping, apparent: Txt) -> May<Txt, LabelMiss>
+    ensures { Gives (visible apparent (found apparent map.now)) result }
+{
+    match map.get(apparent.as_str()) {
+        Some(canonical) => Ok(canonical.copy(alloc)?),
+        None => Err(Miss::Because(LabelMiss::NotVisible { apparent })),
+    }
+}
+
+#[cfg(test)]
+mod tests {
+    use super::*;
+    use std::process::Abort;
+    use std::test::Fail;
+
+    fn home_file(alloc: Global) -> Result<Label, Fail> {
+        Ok(Label {
+            repo: Txt::of(alloc, "h+")?,
+            package: Txt::of(alloc, "p")?,
+            name: Txt::of(alloc, "f")?,
+        })
+    }
+
+    fn means(
+        rt: &impl Abort,
+        alloc: Global,
+        text: &str,
+        want: (&str, &str, &str),
+    ) -> Result<(), Fail> {
+        let mut map = Mapping::new(alloc);
+        map.add(alloc, Txt::of(alloc, "e")?, Txt::of(alloc, "e+")?)?;
+        let label = resolve(alloc, &map, &home_file(alloc)?, text)?;
+        assert_eq!(rt; label.repo.as_str(), want.0);
+        assert_eq!(rt; label.package.as_str(), want.1);
+        assert_eq!(rt; label.name.as_str(), want.2);
+        Ok(())
+    }
+
+    #[test]
+    fn labels_as_seen_from_a_file(rt: HostRuntime) -> Result<(), Fail> {
+        let alloc = rt.alloc();
+        means(&rt, alloc, ":x", ("h+", "p", "x"))?;
+        means(&rt, alloc, "x/y", ("h+", "p", "x/y"))?;
+        means(&rt, alloc, "//a/b", ("h+", "a/b", "b"))?;
+        means(&rt, alloc, "@@//:x", ("", "", "x"))?;
+        means(&rt, alloc, "@e", ("e+", "", "e"))?;
+        means(&rt, alloc, "@e//a:b", ("e+", "a", "b"))
+    }
+
+    #[test]
+    fn texts_that_mean_nothing(rt: HostRuntime) -> Result<(), Fail> {
+        let alloc = rt.alloc();
+        let map = Mapping::new(alloc);
+        let home = home_file(alloc)?;
+        for text in ["//a//b", "//a/..:x", "", "@", "@@.", "//", "//a:", "@h"] {
+            let miss = resolve(alloc, &map, &home, text);
+            let hidden = matches!(&miss, Err(Miss::Because(LabelMiss::NotVisible { .. })));
+            let bad = matches!(&miss, Err(Miss::Because(LabelMiss::BadLabel)));
+            assert_eq!(rt; hidden, text == "@h");
+            assert_eq!(rt; bad, text != "@h");
+        }
+        Ok(())
+    }
+}
