@@ -1,0 +1,7 @@
+pub mod LayoutLaws
+pub mod MarkLengths
+pub mod Numbers
+pub mod PieceLaws
+pub mod RunLengths
+pub mod StringContents
+pub mod StringItems

@@ -1,0 +1,9 @@
+pub mod Answers
+pub mod Bytes
+pub mod Integers
+pub mod Layouts
+pub mod Marks
+pub mod Pieces
+pub mod Runs
+pub mod Strings
+pub mod Words

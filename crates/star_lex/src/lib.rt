@@ -1,0 +1,15 @@
+//! Starlark's tokens. The specification is the relation `Lexes` of texts and token lists; `scan` gives what relates, in one pass.
+#![tactic(auto)]
+
+mod bytes;
+mod integers;
+mod layout;
+mod levels;
+mod marks;
+mod pieces;
+mod runs;
+mod strings;
+pub mod token;
+mod words;
+
+pub use token::{LexFault, Token, TokenKind};
