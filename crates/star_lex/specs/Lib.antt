@@ -6,4 +6,5 @@ pub mod Marks
 pub mod Pieces
 pub mod Runs
 pub mod Strings
+pub mod Tokens
 pub mod Words

@@ -4,12 +4,15 @@
 mod bytes;
 mod integers;
 mod layout;
+pub mod laws;
 mod levels;
 mod marks;
 mod pieces;
 mod runs;
+mod scan;
 mod strings;
 pub mod token;
 mod words;
 
+pub use scan::tokens;
 pub use token::{LexFault, Token, TokenKind};
