@@ -1,17 +1,16 @@
 -- Where a layout stands behind a piece.
-use Rattle.std.proofs.Common.{◌≡◌, ℕ, suc, ◌<◌, ◌≤◌, ◌+◌, ◌-◌, ◌==◌, Bool, true, false, cond, List, [], ◌∷◌, ◌++◌, length, slice_index, count_by, Option, Some, None, eqb, ltb, refl, arith, rules, sym, subst, ap, ◌∙◌}
-use Rattle.std.specs.List.{list_any}
+use Rattle.std.proofs.Common.{◌≡◌, ℕ, ◌<◌, ◌≤◌, ◌+◌, ◌-◌, ◌==◌, cond, List, [], ◌∷◌, ◌++◌, length, slice_index, count_by, Option, Some, None, eqb, ltb, refl, arith, subst}
 use Rattle.std.proofs.lemmas.Bool.{cond_both}
 use Rattle.std.proofs.lemmas.List.Sums.{count_by-le-length}
 use Rattle.star_lex.specs.declared.token.Token.{Token}
 use Rattle.star_lex.specs.declared.token.TokenKind.{TokenKind}
-use Rattle.star_lex.specs.declared.token.TokenKind.TheVariants.{Newline, Indent, Outdent}
+use Rattle.star_lex.specs.declared.token.TokenKind.TheVariants.{Indent, Outdent}
 use Rattle.star_lex.specs.declared.layout.Phase.{Phase}
 use Rattle.star_lex.specs.declared.layout.Phase.TheVariants.{Fresh, Joined, Begun}
 use Rattle.star_lex.specs.declared.layout.Layout.{Layout}
 use Rattle.star_lex.specs.declared.pieces.Piece.{Piece}
 use Rattle.star_lex.specs.declared.pieces.Piece.TheVariants.{Gap, Remark, LineEnd, Join, Shown}
-use Rattle.star_lex.specs.Layouts.{top, outdented, closed_to, here, IsPlaced, gapped_in, joined_in, line_ended_in, line_ended, next_line, over, begun, begun_in, margined, indented, shown, shown_over, moved, nested, opens, shuts, laid}
+use Rattle.star_lex.specs.Layouts.{top, outdented, closed_to, here, gapped_in, joined_in, line_ended_in, line_ended, begun, begun_in, margined, indented, shown, shown_over, moved, nested, opens, shuts, laid}
 
 -- no more lines than bytes and no more brackets than bytes are behind a layout
 pub record IsBounded (s : Layout) : Type 0 where
@@ -49,9 +48,9 @@ closed_to-stands s (Some parts) = (refl, refl, refl)
 
 indented-stands : (s : Layout) → StandsIn s (indented s)
 indented-stands s =
-    cond_both (ltb (top s.levels) s.width) (Some (record s { levels = s.width ∷ s.levels; tokens = s.tokens ++ here Indent s ∷ []; })) (closed_to s (outdented (here Outdent s) s.width s.levels s.tokens)) (StandsIn s)
-      (λ e. (refl, refl, refl))
-      (λ e. closed_to-stands s (outdented (here Outdent s) s.width s.levels s.tokens))
+    cond_both (ltb (top s.levels) s.width) (Some (record s { levels = s.width ∷ s.levels; tokens = s.tokens ++ here Indent s ∷ [] })) (closed_to s (outdented (here Outdent s) s.width s.levels s.tokens)) (StandsIn s)
+    (λ e. (refl, refl, refl))
+    (λ e. closed_to-stands s (outdented (here Outdent s) s.width s.levels s.tokens))
 
 margined-stands : (s : Layout) → StandsIn s (margined s)
 margined-stands s = cond_both s.tabbed None (indented s) (StandsIn s) (λ e. tt) (λ e. indented-stands s)
@@ -68,8 +67,8 @@ begun-stands s = begun_in-stands s.phase s
 nested-more : (b depth : ℕ) → nested b depth ≤ depth + 1
 nested-more b depth =
     cond_both (opens b) (depth + 1) (cond (shuts b) (depth - 1) depth) (λ (k : ℕ). k ≤ depth + 1)
-      (λ e. omega arith)
-      (λ e. cond_both (shuts b) (depth - 1) depth (λ (k : ℕ). k ≤ depth + 1) (λ f. omega arith) (λ f. omega arith))
+    (λ e. omega arith)
+    (λ e. cond_both (shuts b) (depth - 1) depth (λ (k : ℕ). k ≤ depth + 1) (λ f. omega arith) (λ f. omega arith))
 
 count-few : (front : List ℕ) → count_by (λ b. b == 10) front ≤ length front
 count-few front = count_by-le-length (λ b. b == 10) front
@@ -87,7 +86,7 @@ moved-moves front s t some bounded stands =
     let low : s.line ≤ s.at + 1 = bounded.line in
     let few : s.depth ≤ s.at = bounded.depth in
     let feeds : count_by (λ b. b == 10) front ≤ length front = count-few front in
-    (omega arith, record { line = omega arith; depth = omega arith; })
+    (omega arith, record { line = omega arith; depth = omega arith })
 
 shown-moves : (kind : TokenKind) (front : List ℕ) (s : Layout) (o : Option Layout) → 0 < length front → IsBounded s → StandsIn s o → Moves s front (shown_over kind front o)
 shown-moves kind front s None some bounded stands = tt

@@ -4,5 +4,6 @@ pub mod Numbers
 pub mod PieceLaws
 pub mod RunLengths
 pub mod ScanLaws
+pub mod SliceLaws
 pub mod StringContents
 pub mod StringItems

@@ -1,12 +1,11 @@
 -- How long marks are, by the table.
-use Rattle.std.proofs.Common.{◌≡◌, ℕ, ◌<◌, ◌≤◌, Bool, true, false, ◌&&◌, ◌||◌, List, [], ◌∷◌, length, take, leb, refl, arith, subst, sym, inl, inr}
+use Rattle.std.proofs.Common.{◌≡◌, ℕ, ◌≤◌, true, false, ◌&&◌, List, [], ◌∷◌, length, take, leb, refl, arith, subst, sym, inl, inr}
 use Rattle.std.specs.List.{list_all, list_any}
 use Rattle.std.specs.Str.{bytes_eq}
-use Rattle.std.proofs.lemmas.Bool.{and_parts, or_cases, leb-true, both_ways, cases_order}
+use Rattle.std.proofs.lemmas.Bool.{and_parts, or_cases, leb-true, both_ways}
 use Rattle.std.proofs.lemmas.Slice.Eq.{bytes_eq-Decides}
 use Rattle.std.proofs.lemmas.List.{length-take-le}
 use Rattle.star_lex.specs.Marks.{single_marks, double_marks, triple_marks, is_mark, IsLongestMark}
-
 
 -- what stands in a table of short texts is short
 short_among : (text : List ℕ) (table : List (List ℕ)) → list_all (λ (m : List ℕ). leb 1 (length m) && leb (length m) 3) table ≡ true → list_any (bytes_eq text) table ≡ true → (1 ≤ length text) × (length text ≤ 3)
@@ -16,10 +15,10 @@ short_among text (mark ∷ table) all any =
     let bounds = and_parts (leb 1 (length mark)) (leb (length mark) 3) parts.0 in
     elim (or_cases _ _ any) [
       | inl here ↦
-        let same : text ≡ mark = (bytes_eq-Decides text mark).0 here in
-        let low : 1 ≤ length mark = leb-true 1 (length mark) bounds.0 in
-        let high : length mark ≤ 3 = leb-true (length mark) 3 bounds.1 in
-        subst (λ (t : List ℕ). (1 ≤ length t) × (length t ≤ 3)) (sym same) (low, high)
+          let same : text ≡ mark = (bytes_eq-Decides text mark).0 here in
+          let low : 1 ≤ length mark = leb-true 1 (length mark) bounds.0 in
+          let high : length mark ≤ 3 = leb-true (length mark) 3 bounds.1 in
+          subst (λ (t : List ℕ). (1 ≤ length t) × (length t ≤ 3)) (sym same) (low, high)
       | inr there ↦ short_among text table parts.1 there
     ]
 
@@ -58,24 +57,24 @@ elsewhere text n m unmarked within marked e = not-unmarked text m (subst (λ (k 
 
 pub longest-triple : (text : List ℕ) → 3 ≤ length text → is_mark (take 3 text) ≡ true → IsLongestMark text 3
 longest-triple text within marked = record {
-    within = within;
-    mark = marked;
-    longest = λ m w h. (front_short text m w h).1;
-  }
+  within = within;
+  mark = marked;
+  longest = λ m w h. (front_short text m w h).1;
+}
 
 pub longest-double : (text : List ℕ) → Unmarked text 3 → 2 ≤ length text → is_mark (take 2 text) ≡ true → IsLongestMark text 2
 longest-double text three within marked = record {
-    within = within;
-    mark = marked;
-    longest = λ m w h. let short = front_short text m w h in let apart : m ≡ 3 → ⊥ = elsewhere text 3 m three w h in omega arith;
-  }
+  within = within;
+  mark = marked;
+  longest = λ m w h. let short = front_short text m w h in let apart : m ≡ 3 → ⊥ = elsewhere text 3 m three w h in omega arith;
+}
 
 pub longest-single : (text : List ℕ) → Unmarked text 3 → Unmarked text 2 → 1 ≤ length text → is_mark (take 1 text) ≡ true → IsLongestMark text 1
 longest-single text three two within marked = record {
-    within = within;
-    mark = marked;
-    longest = λ m w h. let short = front_short text m w h in let apart : m ≡ 3 → ⊥ = elsewhere text 3 m three w h in let away : m ≡ 2 → ⊥ = elsewhere text 2 m two w h in omega arith;
-  }
+  within = within;
+  mark = marked;
+  longest = λ m w h. let short = front_short text m w h in let apart : m ≡ 3 → ⊥ = elsewhere text 3 m three w h in let away : m ≡ 2 → ⊥ = elsewhere text 2 m two w h in omega arith;
+}
 
 pub longest-none : (text : List ℕ) → Unmarked text 3 → Unmarked text 2 → Unmarked text 1 → (n : ℕ) → IsLongestMark text n → ⊥
 longest-none text three two one n mark =

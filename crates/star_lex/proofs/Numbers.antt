@@ -1,5 +1,5 @@
 -- A number only grows with further digits.
-use Rattle.std.proofs.Common.{◌≡◌, ℕ, zero, suc, ◌<◌, ◌≤◌, ◌+◌, ◌*◌, Bool, true, false, cond, List, [], ◌∷◌, length, Option, Some, None, option_and_then, refl, ap, sym, ◌∙◌, arith, ltb, leb, eqb, drop, get_or}
+use Rattle.std.proofs.Common.{◌≡◌, ℕ, zero, suc, ◌<◌, ◌≤◌, ◌+◌, ◌*◌, true, false, cond, List, [], ◌∷◌, length, Some, None, option_and_then, refl, ap, sym, ◌∙◌, arith, ltb, drop, get_or}
 use Rattle.std.proofs.lemmas.Bool.{lt-leb, le-leb, lt-ltb, le-ltb}
 use Rattle.std.proofs.lemmas.List.{at_drop_more, at_drop_all}
 use Rattle.star_lex.specs.Integers.{digit, with_digits, within_last, last_integer, number, up_to_last}

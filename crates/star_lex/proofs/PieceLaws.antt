@@ -1,20 +1,15 @@
 -- Where no piece stands at the front, where one does how long it is, and that it is the only one.
-use Rattle.std.proofs.Common.{◌≡◌, ℕ, suc, ◌<◌, ◌≤◌, ◌+◌, ◌-◌, Bool, true, false, ◌&&◌, ◌||◌, not, cond, List, [], ◌∷◌, length, take, drop, slice_index, Option, Some, None, Result, Ok, Err, pos, eqb, leb, refl, arith, sym, subst, ap, ◌∙◌, inl, inr}
+use Rattle.std.proofs.Common.{◌≡◌, ℕ, ◌<◌, ◌≤◌, ◌+◌, ◌-◌, Bool, true, false, ◌&&◌, List, length, take, drop, slice_index, Option, Some, None, pos, eqb, refl, arith, sym, subst, ap, ◌∙◌}
 use Rattle.std.proofs.lemmas.Bool.{and_parts, both_ways}
 use Rattle.std.proofs.lemmas.Bool.Decides.{nat_tests}
 use Rattle.std.proofs.lemmas.List.{length-drop}
-use Rattle.bz_base.specs.declared.memory.Miss.{Miss}
-use Rattle.bz_base.specs.declared.memory.Miss.TheVariants.{OutOfMemory, Because}
-use Rattle.star_lex.specs.declared.token.NoPiece.{NoPiece}
 use Rattle.star_lex.specs.declared.pieces.Piece.{Piece}
-use Rattle.star_lex.specs.declared.pieces.Piece.TheVariants.{Gap, Remark, LineEnd, Join, Shown}
-use Rattle.star_lex.specs.declared.token.TokenKind.{TokenKind}
-use Rattle.star_lex.specs.declared.token.TokenKind.TheVariants.{Int, Text, Mark}
+use Rattle.star_lex.specs.declared.pieces.Piece.TheVariants.{Shown}
+use Rattle.star_lex.specs.declared.token.TokenKind.TheVariants.{Int, Text}
 use Rattle.star_lex.specs.declared.bytes.Class.{Class}
 use Rattle.star_lex.specs.declared.bytes.Class.TheVariants.{Space, Letter, Digit, Quote, Hash, Backslash, Feed, Other}
 use Rattle.star_lex.specs.declared.runs.Within.TheVariants.{Blank, Word, Comment}
-use Rattle.star_lex.specs.Answers.{Answers}
-use Rattle.star_lex.specs.Bytes.{class_of, line_end}
+use Rattle.star_lex.specs.Bytes.{class_of}
 use Rattle.star_lex.specs.Runs.{belongs, IsRun, is_blank_class, is_word_class}
 use Rattle.star_lex.specs.Words.{word_kind}
 use Rattle.star_lex.specs.Integers.{integer_of, begins_fraction}

@@ -1,11 +1,11 @@
 -- A text is read piece by piece in one way: what completes the rest completes the whole, and whatever reads the whole goes through what is out so far.
-use Rattle.std.proofs.Common.{◌≡◌, ℕ, suc, ◌<◌, ◌≤◌, ◌+◌, ◌-◌, List, [], ◌∷◌, length, take, drop, Option, Some, None, refl, arith, sym, subst, ap, ◌∙◌}
+use Rattle.std.proofs.Common.{◌≡◌, ℕ, ◌<◌, ◌≤◌, ◌+◌, ◌-◌, List, [], ◌∷◌, length, take, drop, Option, Some, None, refl, arith, sym, subst, ap, ◌∙◌}
 use Rattle.std.proofs.lemmas.List.{length-drop, length-take-le}
 use Rattle.star_lex.specs.declared.token.Token.{Token}
 use Rattle.star_lex.specs.declared.pieces.Piece.{Piece}
 use Rattle.star_lex.specs.declared.layout.Layout.{Layout}
 use Rattle.star_lex.specs.Pieces.{IsPiece}
-use Rattle.star_lex.specs.Layouts.{laid, ended, start, IsPlaced}
+use Rattle.star_lex.specs.Layouts.{laid, ended, start}
 use Rattle.star_lex.specs.Tokens.{IsStep, LexesFrom, Lexes}
 use Rattle.star_lex.specs.Tokens.LexesFrom.{ends, goes}
 use Rattle.star_lex.proofs.PieceLaws.{IsPiece-unique, IsPiece-within}
@@ -63,11 +63,11 @@ pub record Scans (whole : List ℕ) (s : Layout) (rest : List ℕ) : Type 0 wher
 pub Scans-start : (whole : List ℕ) → Scans whole start whole
 unfolding Lexes
 Scans-start whole = record {
-    placed = omega arith;
-    bounded = record { line = omega arith; depth = omega arith; };
-    completes = λ tokens lexes. lexes;
-    only = λ tokens lexes. lexes;
-  }
+  placed = omega arith;
+  bounded = record { line = omega arith; depth = omega arith };
+  completes = λ tokens lexes. lexes;
+  only = λ tokens lexes. lexes;
+}
 
 pub Scans-step : (whole : List ℕ) (s : Layout) (rest : List ℕ) (t : Layout) (n : ℕ) → Scans whole s rest → IsStep s rest t n → Scans whole t (drop n rest)
 Scans-step whole s rest t n so_far step =

@@ -1,7 +1,7 @@
 -- The contents of a string, item by item: what completes the rest completes the whole, and nothing else reads the whole.
-use Rattle.std.proofs.Common.{◌≡◌, ℕ, zero, suc, ◌<◌, ◌≤◌, ◌+◌, ◌-◌, Bool, true, false, ◌&&◌, ◌||◌, not, cond, List, [], ◌∷◌, ◌++◌, length, take, drop, get_or, slice_index, Option, Some, None, option_and_then, leb, eqb, refl, arith, sym, subst, ap, ◌∙◌, inl, inr}
+use Rattle.std.proofs.Common.{◌≡◌, ℕ, zero, suc, ◌<◌, ◌≤◌, ◌+◌, ◌-◌, Bool, true, false, ◌&&◌, cond, List, [], ◌∷◌, ◌++◌, length, drop, slice_index, Option, Some, None, eqb, refl, arith, sym, subst, ap, ◌∙◌}
 use Rattle.std.proofs.lemmas.Bool.{and_parts, both_ways, eqb-true}
-use Rattle.std.proofs.lemmas.List.{append_assoc, append-nil, length-drop, get_or_past}
+use Rattle.std.proofs.lemmas.List.{append_assoc, append-nil, length-drop}
 use Rattle.star_lex.specs.declared.strings.Style.{Style}
 use Rattle.star_lex.specs.declared.strings.Meaning.{Meaning}
 use Rattle.std.specs.Str.{IsUtf8}
@@ -61,10 +61,10 @@ pub record Continues (style : Style) (whole value rest : List ℕ) : Type 0 wher
 
 pub Continues-start : (style : Style) (whole : List ℕ) → Continues style whole [] whole
 Continues-start style whole = record {
-    within = omega arith;
-    completes = λ more n contents. let e : n ≡ length whole - length whole + n = omega arith in subst (λ (k : ℕ). Contents style whole more k) e contents;
-    only = λ all n contents. record { more = all; left = n; value_is = refl; size_is = omega arith; contents = contents; };
-  }
+  within = omega arith;
+  completes = λ more n contents. let e : n ≡ length whole - length whole + n = omega arith in subst (λ (k : ℕ). Contents style whole more k) e contents;
+  only = λ all n contents. record { more = all; left = n; value_is = refl; size_is = omega arith; contents = contents };
+}
 
 pub Continues-step : (style : Style) (whole value rest : List ℕ) (meaning : Meaning) (size : ℕ) → Continues style whole value rest → closes style rest ≡ false → item style rest ≡ Some (meaning, size) → Continues style whole (value ++ bytes_of meaning) (drop size rest)
 Continues-step style whole value rest meaning size so_far unended first =
@@ -75,22 +75,22 @@ Continues-step style whole value rest meaning size so_far unended first =
     record {
       within = omega arith;
       completes = λ more n contents.
-        let longer : length whole - length rest + (size + n) ≡ length whole - length (drop size rest) + n = omega arith in
-        let all : Contents style whole (value ++ (bytes_of meaning ++ more)) (length whole - length rest + (size + n)) = so_far.completes (bytes_of meaning ++ more) (size + n) (goes rest more meaning size n unended first contents) in
-        subst (λ (k : ℕ). Contents style whole ((value ++ bytes_of meaning) ++ more) k) longer
+          let longer : length whole - length rest + (size + n) ≡ length whole - length (drop size rest) + n = omega arith in
+          let all : Contents style whole (value ++ (bytes_of meaning ++ more)) (length whole - length rest + (size + n)) = so_far.completes (bytes_of meaning ++ more) (size + n) (goes rest more meaning size n unended first contents) in
+          subst (λ (k : ℕ). Contents style whole ((value ++ bytes_of meaning) ++ more) k) longer
           (subst (λ (v : List ℕ). Contents style whole v (length whole - length rest + (size + n))) (sym (append_assoc value (bytes_of meaning) more)) all);
       only = λ all n contents.
-        let left = so_far.only all n contents in
-        let next = Contents-gone style rest left.more left.left meaning size unended first left.contents in
-        let ends_so : n ≡ length whole - length rest + left.left = left.size_is in
-        let goes_so : left.left ≡ size + next.left = next.size_is in
-        record {
-          more = next.more;
-          left = next.left;
-          value_is = left.value_is ∙ (ap (λ (v : List ℕ). value ++ v) next.value_is ∙ sym (append_assoc value (bytes_of meaning) next.more));
-          size_is = omega arith;
-          contents = next.contents;
-        };
+          let left = so_far.only all n contents in
+          let next = Contents-gone style rest left.more left.left meaning size unended first left.contents in
+          let ends_so : n ≡ length whole - length rest + left.left = left.size_is in
+          let goes_so : left.left ≡ size + next.left = next.size_is in
+          record {
+            more = next.more;
+            left = next.left;
+            value_is = left.value_is ∙ (ap (λ (v : List ℕ). value ++ v) next.value_is ∙ sym (append_assoc value (bytes_of meaning) next.more));
+            size_is = omega arith;
+            contents = next.contents;
+          };
     }
 
 pub Continues-ended : (style : Style) (whole value rest : List ℕ) → Continues style whole value rest → closes style rest ≡ true → Contents style whole value (length whole - length rest + quotes style)
@@ -146,7 +146,7 @@ unfolding style_of
 style_of-quote text = refl
 
 pub IsString-made : (text value : List ℕ) (size n : ℕ) → Contents (style_of text) (drop (opening text) text) value size → n ≡ opening text + size → IsUtf8 value → IsString text value n
-IsString-made text value size n contents whole utf8 = record { size = size; contents = contents; whole = whole; utf8 = utf8; }
+IsString-made text value size n contents whole utf8 = record { size = size; contents = contents; whole = whole; utf8 = utf8 }
 
 pub IsString-absent : (text : List ℕ) → ((value : List ℕ) (n : ℕ) → Contents (style_of text) (drop (opening text) text) value n → ⊥) → (value : List ℕ) (n : ℕ) → IsString text value n → ⊥
 IsString-absent text none value n string = none value string.size string.contents

@@ -1,10 +1,10 @@
 -- An item of a string stands in the text.
-use Rattle.std.proofs.Common.{◌≡◌, ℕ, zero, suc, ◌<◌, ◌≤◌, ◌+◌, ◌-◌, Bool, true, false, ◌&&◌, ◌||◌, not, cond, List, [], ◌∷◌, length, take, drop, slice_index, Option, Some, None, option_and_then, leb, eqb, arith, subst}
+use Rattle.std.proofs.Common.{◌≡◌, ℕ, zero, suc, ◌<◌, ◌≤◌, ◌+◌, ◌-◌, Bool, true, false, ◌&&◌, cond, List, [], ◌∷◌, length, take, drop, slice_index, Option, Some, None, option_and_then, leb, eqb, arith, subst}
 use Rattle.std.proofs.lemmas.Bool.{and_parts, cond_both, eqb-true, leb-true}
 use Rattle.std.proofs.lemmas.List.{length-drop}
 use Rattle.star_lex.specs.declared.strings.Style.{Style}
 use Rattle.star_lex.specs.declared.strings.Meaning.{Meaning}
-use Rattle.star_lex.specs.declared.strings.Meaning.TheVariants.{Nothing, Byte, Kept, Scalar}
+use Rattle.star_lex.specs.declared.strings.Meaning.TheVariants.{Byte, Kept, Scalar}
 use Rattle.star_lex.specs.Bytes.{line_end, is_visible}
 use Rattle.star_lex.specs.Integers.{number}
 use Rattle.star_lex.specs.Strings.{item, escape, raw_pair, plain, plain_byte, kept_byte, continued, one_letter, numbered_escape, ascii, scalar, front_number, octal_digits, simple_escape, is_scalar}
@@ -34,8 +34,8 @@ and_then-both (Some code) f P none some = some code
 front-both : (base size : ℕ) (text : List ℕ) (f : ℕ → Item) (P : Item → Type 0) → P None → (size ≤ length text → (code : ℕ) → P (f code)) → P (option_and_then f (front_number base size text))
 front-both base size text f P none some =
     cond_both (leb size (length text)) (number base (take size text)) None (λ (o : Option ℕ). P (option_and_then f o))
-      (λ e. and_then-both (number base (take size text)) f P none (some (leb-true size (length text) e)))
-      (λ e. none)
+    (λ e. and_then-both (number base (take size text)) f P none (some (leb-true size (length text) e)))
+    (λ e. none)
 
 ascii-both : (size code : ℕ) (P : Item → Type 0) → P None → P (Some (Byte code, size)) → P (ascii size code)
 ascii-both size code P none some = cond_both (leb code 127) (Some (Byte code, size)) None P (λ e. some) (λ e. none)
@@ -59,8 +59,8 @@ numbered-fits : (text : List ℕ) → FitsIn text 1 (numbered_escape text)
 unfolding numbered_escape
 numbered-fits text =
     cond_both (eqb (slice_index text 0) 120) _ _ (FitsIn text 1) (λ e. coded-x text)
-      (λ e. cond_both (eqb (slice_index text 0) 117) _ _ (FitsIn text 1) (λ f. coded-u text)
-        (λ f. cond_both (eqb (slice_index text 0) 85) _ _ (FitsIn text 1) (λ g. coded-long text) (λ g. coded-octal text (octal_digits text))))
+    (λ e. cond_both (eqb (slice_index text 0) 117) _ _ (FitsIn text 1) (λ f. coded-u text)
+    (λ f. cond_both (eqb (slice_index text 0) 85) _ _ (FitsIn text 1) (λ g. coded-long text) (λ g. coded-octal text (octal_digits text))))
 
 abbrev pub FitsLine : List ℕ → Option ℕ → Type 0
 FitsLine text None = Unit {0}
@@ -70,11 +70,11 @@ FitsLine text (Some n) = Fits text n
 line_end-fits : (text : List ℕ) → FitsLine text (line_end text)
 line_end-fits text =
     cond_both (eqb (slice_index text 0) 10) (Some 1) (cond (eqb (slice_index text 0) 13 && eqb (slice_index text 1) 10) (Some 2) None) (FitsLine text)
-      (λ e. let here : 0 < length text = byte-within text 0 10 (eqb-true (slice_index text 0) 10 e) (omega arith) in (omega arith, omega arith))
-      (λ e. cond_both (eqb (slice_index text 0) 13 && eqb (slice_index text 1) 10) (Some 2) None (FitsLine text)
-        (λ f. let next = and_parts (eqb (slice_index text 0) 13) (eqb (slice_index text 1) 10) f in
-          let here : 1 < length text = byte-within text 1 10 (eqb-true (slice_index text 1) 10 next.1) (omega arith) in (omega arith, omega arith))
-        (λ f. tt))
+    (λ e. let here : 0 < length text = byte-within text 0 10 (eqb-true (slice_index text 0) 10 e) (omega arith) in (omega arith, omega arith))
+    (λ e. cond_both (eqb (slice_index text 0) 13 && eqb (slice_index text 1) 10) (Some 2) None (FitsLine text)
+    (λ f. let next = and_parts (eqb (slice_index text 0) 13) (eqb (slice_index text 1) 10) f in
+    let here : 1 < length text = byte-within text 1 10 (eqb-true (slice_index text 1) 10 next.1) (omega arith) in (omega arith, omega arith))
+    (λ f. tt))
 
 pub line_end-within : (text : List ℕ) (n : ℕ) → line_end text ≡ Some n → Fits text n
 line_end-within text n e = subst (λ (o : Option ℕ). FitsLine text o) e (line_end-fits text)
@@ -128,8 +128,8 @@ unfolding item
 item-fits style [] = plain-fits style.triple []
 item-fits style (b ∷ text) =
     cond_both (eqb b 92) (cond style.raw (raw_pair text) (escape text)) (plain style.triple (b ∷ text)) (FitsIn (b ∷ text) 0)
-      (λ e. paired-fits style.raw b text)
-      (λ e. plain-fits style.triple (b ∷ text))
+    (λ e. paired-fits style.raw b text)
+    (λ e. plain-fits style.triple (b ∷ text))
 
 pub item-within : (style : Style) (text : List ℕ) (meaning : Meaning) (n : ℕ) → item style text ≡ Some (meaning, n) → Fits text n
 item-within style text meaning n e = let fits : FitsIn text 0 (Some (meaning, n)) = subst (λ (o : Item). FitsIn text 0 o) e (item-fits style text) in (fits.0, omega arith)

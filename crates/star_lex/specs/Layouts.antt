@@ -1,25 +1,25 @@
 -- Lines, indentation and brackets: how pieces, one after another, give tokens and their places. The Starlark specification, "Lexical elements"; the Python language reference, 2.1 "Line structure".
-use Rattle.std.specs.Prelude.{◌≡◌, ℕ, ◌+◌, ◌-◌, Bool, true, false, ◌||◌, ◌==◌, if◌then◌else◌, List, [], ◌∷◌, ◌++◌, length, map, slice_index, slice_get, count_by, Option, Some, None, option_and_then, nat_lt}
+use Rattle.std.specs.Prelude.{◌≡◌, ℕ, ◌+◌, ◌-◌, Bool, true, false, ◌||◌, ◌==◌, if◌then◌else◌, List, [], ◌∷◌, ◌++◌, length, map, slice_index, slice_get, count_by, Option, Some, None, nat_lt}
 use Rattle.std.specs.List.{list_any}
 use Rattle.star_lex.specs.declared.pieces.Piece.{Piece}
 use Rattle.star_lex.specs.declared.pieces.Piece.TheVariants.{Gap, Remark, LineEnd, Join, Shown}
 use Rattle.star_lex.specs.declared.token.Token.{Token}
 use Rattle.star_lex.specs.declared.token.TokenKind.{TokenKind}
-use Rattle.star_lex.specs.declared.token.TokenKind.TheVariants.{Identifier, Keyword, Reserved, Int, Text, Mark, Newline, Indent, Outdent}
+use Rattle.star_lex.specs.declared.token.TokenKind.TheVariants.{Newline, Indent, Outdent}
 use Rattle.star_lex.specs.declared.layout.Phase.{Phase}
 use Rattle.star_lex.specs.declared.layout.Phase.TheVariants.{Fresh, Joined, Begun}
 use Rattle.star_lex.specs.declared.layout.Layout.{Layout}
 
 -- a token of no bytes where the layout stands
 abbrev pub here : TokenKind → Layout → Token
-here kind s = record { kind = kind; begin = s.at; end = s.at; line = s.line; }
+here kind s = record { kind = kind; begin = s.at; end = s.at; line = s.line }
 
 -- a token over the next bytes
 abbrev pub over : TokenKind → List ℕ → Layout → Token
-over kind front s = record { kind = kind; begin = s.at; end = s.at + length front; line = s.line; }
+over kind front s = record { kind = kind; begin = s.at; end = s.at + length front; line = s.line }
 
 abbrev pub with_token : Layout → Token → Layout
-with_token s token = record s { tokens = s.tokens ++ token ∷ []; }
+with_token s token = record s { tokens = s.tokens ++ token ∷ [] }
 
 -- the innermost indentation level that is open; the outermost is no indentation
 abbrev pub top : List ℕ → ℕ
@@ -34,7 +34,7 @@ outdented out width (level ∷ levels) tokens =
     else (if width == level then Some (level ∷ levels, tokens) else None)
 
 abbrev pub with_parts : Layout → List ℕ × List Token → Layout
-with_parts s parts = record s { levels = parts.0; tokens = parts.1; }
+with_parts s parts = record s { levels = parts.0; tokens = parts.1 }
 
 abbrev pub closed_to : Layout → Option (List ℕ × List Token) → Option Layout
 closed_to s None = None
@@ -43,7 +43,7 @@ closed_to s (Some parts) = Some (with_parts s parts)
 -- a deeper indentation opens a level, another returns to one that is open
 abbrev pub indented : Layout → Option Layout
 indented s =
-    if nat_lt (top s.levels) s.width then Some (record s { levels = s.width ∷ s.levels; tokens = s.tokens ++ here Indent s ∷ []; })
+    if nat_lt (top s.levels) s.width then Some (record s { levels = s.width ∷ s.levels; tokens = s.tokens ++ here Indent s ∷ [] })
     else closed_to s (outdented (here Outdent s) s.width s.levels s.tokens)
 
 -- before a line's first token: its indentation has no tab
@@ -70,28 +70,28 @@ nested b depth = if opens b then depth + 1 else (if shuts b then depth - 1 else 
 
 -- the same with a token
 abbrev pub shown : TokenKind → List ℕ → Layout → Layout
-shown kind front s = record s { tokens = s.tokens ++ over kind front s ∷ []; phase = Begun; depth = nested (slice_index front 0) s.depth; }
+shown kind front s = record s { tokens = s.tokens ++ over kind front s ∷ []; phase = Begun; depth = nested (slice_index front 0) s.depth }
 
 -- blanks at the beginning of a line are its indentation
 abbrev pub gapped_in : Phase → List ℕ → Layout → Layout
-gapped_in Fresh front s = record s { width = length front; tabbed = list_any (λ b. b == 9) front; }
+gapped_in Fresh front s = record s { width = length front; tabbed = list_any (λ b. b == 9) front }
 gapped_in Joined front s = s
 gapped_in Begun front s = s
 
 -- what a backslash continues before the first token has no indentation of its own
 abbrev pub joined_in : Phase → Layout → Layout
-joined_in Fresh s = record s { phase = Joined; }
+joined_in Fresh s = record s { phase = Joined }
 joined_in Joined s = s
 joined_in Begun s = s
 
 abbrev pub next_line : Layout → Layout
-next_line s = record s { phase = Fresh; width = 0; tabbed = false; }
+next_line s = record s { phase = Fresh; width = 0; tabbed = false }
 
 -- a line's end ends the line, with a newline where the line has a token
 abbrev pub line_ended_in : Phase → List ℕ → Layout → Layout
 line_ended_in Fresh front s = next_line s
 line_ended_in Joined front s = next_line s
-line_ended_in Begun front s = next_line (record s { tokens = s.tokens ++ over Newline front s ∷ []; })
+line_ended_in Begun front s = next_line (record s { tokens = s.tokens ++ over Newline front s ∷ [] })
 
 -- within brackets it gives nothing
 abbrev pub line_ended : List ℕ → Layout → Layout
@@ -105,7 +105,7 @@ pub record IsPlaced (s t : Layout) : Type 0 where
 
 -- behind these bytes; each line feed begins a line
 abbrev pub moved : List ℕ → Layout → Layout
-moved front s = record s { at = s.at + length front; line = s.line + count_by (λ b. b == 10) front; }
+moved front s = record s { at = s.at + length front; line = s.line + count_by (λ b. b == 10) front }
 
 abbrev pub shown_over : TokenKind → List ℕ → Option Layout → Option Layout
 shown_over kind front None = None
@@ -138,4 +138,4 @@ ended s = newline_ended s ++ map (λ _. here Outdent s) s.levels
 
 -- before the first piece
 abbrev pub start : Layout
-start = record { tokens = []; levels = []; depth = 0; at = 0; line = 1; width = 0; tabbed = false; phase = Fresh; }
+start = record { tokens = []; levels = []; depth = 0; at = 0; line = 1; width = 0; tabbed = false; phase = Fresh }

@@ -5,6 +5,7 @@ pub mod Layouts
 pub mod Marks
 pub mod Pieces
 pub mod Runs
+pub mod Slices
 pub mod Strings
 pub mod Tokens
 pub mod Words

@@ -1,11 +1,10 @@
 -- The pieces of a text, each as long as it can be: the Starlark specification, "Lexical elements".
-use Rattle.std.specs.Prelude.{◌≡◌, ℕ, ◌+◌, ◌<◌, ◌≤◌, Bool, true, false, MatchBool, List, length, take, drop, slice_index, Option, Some, pos}
+use Rattle.std.specs.Prelude.{◌≡◌, ℕ, ◌+◌, Bool, true, false, List, take, drop, slice_index, Some, pos}
 use Rattle.star_lex.specs.declared.bytes.Class.{Class}
 use Rattle.star_lex.specs.declared.bytes.Class.TheVariants.{Space, Letter, Digit, Quote, Hash, Backslash, Feed, Other}
 use Rattle.star_lex.specs.declared.runs.Within.TheVariants.{Blank, Word, Comment}
 use Rattle.star_lex.specs.declared.pieces.Piece.{Piece}
 use Rattle.star_lex.specs.declared.pieces.Piece.TheVariants.{Gap, Remark, LineEnd, Join, Shown}
-use Rattle.star_lex.specs.declared.token.TokenKind.{TokenKind}
 use Rattle.star_lex.specs.declared.token.TokenKind.TheVariants.{Int, Text, Mark}
 use Rattle.star_lex.specs.Bytes.{class_of, line_end}
 use Rattle.star_lex.specs.Runs.{belongs, IsRun}

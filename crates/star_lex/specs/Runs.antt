@@ -1,8 +1,8 @@
 -- Longest runs of bytes of one kind.
-use Rattle.std.specs.Prelude.{◌≡◌, ℕ, ◌≤◌, Bool, true, false, ◌||◌, ◌&&◌, ◌==◌, not, List, length, take, slice_index}
+use Rattle.std.specs.Prelude.{◌≡◌, ℕ, ◌≤◌, Bool, true, false, ◌&&◌, ◌==◌, not, List, length, take, slice_index}
 use Rattle.std.specs.List.{list_all}
 use Rattle.star_lex.specs.declared.bytes.Class.{Class}
-use Rattle.star_lex.specs.declared.bytes.Class.TheVariants.{Space, Letter, Digit, Quote, Hash, Backslash, Feed, Other}
+use Rattle.star_lex.specs.declared.bytes.Class.TheVariants.{Space, Letter, Digit}
 use Rattle.star_lex.specs.declared.runs.Within.{Within}
 use Rattle.star_lex.specs.declared.runs.Within.TheVariants.{Blank, Word, Comment}
 use Rattle.star_lex.specs.Bytes.{class_of, is_visible}

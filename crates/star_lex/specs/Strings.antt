@@ -1,5 +1,5 @@
 -- Strings and their escapes: the Starlark specification, "Lexical elements".
-use Rattle.std.specs.Prelude.{◌≡◌, ℕ, suc, ◌+◌, ◌≤◌, Bool, true, false, not, ◌||◌, ◌&&◌, ◌==◌, if◌then◌else◌, List, [], ◌∷◌, ◌++◌, length, take, drop, slice_index, Option, Some, None, option_and_then, nat_lt, nat_le, codes}
+use Rattle.std.specs.Prelude.{◌≡◌, ℕ, ◌+◌, Bool, true, false, not, ◌||◌, ◌&&◌, ◌==◌, if◌then◌else◌, List, [], ◌∷◌, ◌++◌, length, take, drop, slice_index, Option, Some, None, option_and_then, nat_lt, nat_le}
 use Rattle.std.specs.Char.{encode_utf8}
 use Rattle.std.specs.Str.{IsUtf8}
 use Rattle.star_lex.specs.declared.strings.Style.{Style}
@@ -120,10 +120,10 @@ prefix text = if is_raw text then 1 else 0
 -- how the string at the front is written
 unfoldable pub style_of : List ℕ → Style
 style_of text = record {
-    quote = slice_index text (prefix text);
-    triple = is_tripled (slice_index text (prefix text)) (drop (prefix text) text);
-    raw = is_raw text;
-  }
+  quote = slice_index text (prefix text);
+  triple = is_tripled (slice_index text (prefix text)) (drop (prefix text) text);
+  raw = is_raw text;
+}
 
 -- Items, one after another, up to the quotes at the end: the text behind the first quotes, the value, and how long it is with the last quotes.
 pub data Contents (style : Style) : List ℕ → List ℕ → ℕ → Type 0 where

@@ -1,5 +1,5 @@
 -- The tokens of a text: its pieces, one after another, laid out.
-use Rattle.std.specs.Prelude.{◌≡◌, ℕ, ◌+◌, ◌-◌, ◌≤◌, Bool, true, false, ◌||◌, List, [], ◌∷◌, length, take, drop, All, Option, Some, None, Result, Ok, Err, ⊤, ℤ, pos}
+use Rattle.std.specs.Prelude.{◌≡◌, ℕ, List, [], take, drop, Some, Result, Ok, Err, ⊤}
 use Rattle.bz_base.specs.declared.memory.Miss.{Miss}
 use Rattle.bz_base.specs.declared.memory.Miss.TheVariants.{OutOfMemory, Because}
 use Rattle.star_lex.specs.declared.token.Token.{Token}

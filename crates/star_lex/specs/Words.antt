@@ -1,5 +1,5 @@
 -- Keywords and reserved words: the Starlark specification, "Lexical elements".
-use Rattle.std.specs.Prelude.{ℕ, Bool, ◌||◌, if◌then◌else◌, List, [], ◌∷◌, codes, bytes_eq}
+use Rattle.std.specs.Prelude.{ℕ, Bool, if◌then◌else◌, List, [], ◌∷◌, codes, bytes_eq}
 use Rattle.std.specs.List.{list_any}
 use Rattle.star_lex.specs.declared.token.TokenKind.{TokenKind}
 use Rattle.star_lex.specs.declared.token.TokenKind.TheVariants.{Identifier, Keyword, Reserved}

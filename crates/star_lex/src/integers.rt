@@ -54,7 +54,11 @@ pub(crate) fn number(base: u64, digits: &[u8]) -> Option<u64>
             Some(next) => value = next,
         }
     }
-    if value <= LAST_INTEGER { Some(value) } else { None }
+    if value <= LAST_INTEGER {
+        Some(value)
+    } else {
+        None
+    }
 }
 
 fn is_hexadecimal(word: &[u8]) -> bool
@@ -79,7 +83,11 @@ fn has_leading_zero(word: &[u8]) -> bool
 fn behind_prefix(word: &[u8]) -> &[u8]
     ensures { result.now ≡ drop 2 word.now }
 {
-    if word.len() < 2 { &[] } else { word.split_at(2).1 }
+    if word.len() < 2 {
+        &[]
+    } else {
+        word.split_at(2).1
+    }
 }
 
 /// The value of an integer.

@@ -141,7 +141,7 @@ impl Layout {
     }
 
     fn indent(&mut self) -> Mem<()>
-        ensures { OnOk result (self.new ≡ record self.old { levels = self.old.width ∷ self.old.levels; tokens = self.old.tokens ++ here Indent self.old ∷ []; }) }
+        ensures { OnOk result (self.new ≡ record self.old { levels = self.old.width ∷ self.old.levels; tokens = self.old.tokens ++ here Indent self.old ∷ [] }) }
     {
         let token = self.here(TokenKind::Indent);
         self.push(token)?;
@@ -347,7 +347,7 @@ impl Layout {
     }
 
     fn end_last_line(&mut self) -> Mem<()>
-        ensures { OnOk result (self.new ≡ record self.old { tokens = newline_ended self.old; }) }
+        ensures { OnOk result (self.new ≡ record self.old { tokens = newline_ended self.old }) }
     {
         if self.lacks_newline() {
             let token = self.here(TokenKind::Newline);

@@ -3,8 +3,8 @@
 
 mod bytes;
 mod integers;
-mod layout;
 pub mod laws;
+mod layout;
 mod levels;
 mod marks;
 mod pieces;
@@ -12,6 +12,8 @@ mod runs;
 mod scan;
 mod strings;
 pub mod token;
+#[cfg(test)]
+mod token_table;
 mod words;
 
 pub use scan::tokens;

@@ -83,7 +83,11 @@ fn quoted(alloc: Global, text: &[u8]) -> May<(Piece, usize), NoPiece>
 fn lettered(alloc: Global, text: &[u8]) -> May<(Piece, usize), NoPiece>
     ensures { Answers (λ found. IsLettered (is_raw text.now) text.now found.0 found.1) ((piece : Piece) (n : ℕ) → IsLettered (is_raw text.now) text.now piece n → ⊥) result }
 {
-    if is_raw(text) { quoted(alloc, text) } else { Ok(word(text)) }
+    if is_raw(text) {
+        quoted(alloc, text)
+    } else {
+        Ok(word(text))
+    }
 }
 
 fn join(text: &[u8]) -> May<(Piece, usize), NoPiece>

@@ -1,6 +1,7 @@
 //! One pass over a text: the piece at the front of what is left is laid out, until nothing is left.
-ghost use Rattle.std.specs.Prelude.{◌≡◌, ◌≤◌, ◌<◌, ◌+◌, ◌^◌, ℕ, length};
+ghost use Rattle.std.specs.Prelude.{◌≡◌, ◌≤◌, ◌<◌, ◌+◌, ◌^◌, ℕ, length, IfOk};
 ghost use Rattle.star_lex.specs.Answers.{Answers};
+ghost use Rattle.star_lex.specs.Slices.{AreSlices};
 ghost use Rattle.star_lex.specs.Tokens.{IsStep, Lexes, Scanned};
 ghost use Rattle.star_lex.specs.declared.layout.Layout.{Layout};
 
@@ -35,6 +36,7 @@ fn advance(alloc: Global, layout: &mut Layout, rest: &[u8]) -> May<usize, NoPiec
 /// The tokens of a text.
 pub fn tokens(alloc: Global, text: &str) -> May<Seq<Token>, LexFault>
     ensures exact { Scanned text.now result }
+    ensures placed { IfOk result (λ tokens. AreSlices text.now 0 tokens (length text.now)) }
 {
     let mut layout = Layout::new(alloc);
     let mut rest = text.as_bytes();

@@ -32,20 +32,32 @@ pub enum Meaning {
 pub(crate) fn behind(text: &[u8], size: usize) -> &[u8]
     ensures { result.now ≡ drop size text.now }
 {
-    if size <= text.len() { text.split_at(size).1 } else { &[] }
+    if size <= text.len() {
+        text.split_at(size).1
+    } else {
+        &[]
+    }
 }
 
 fn front_number(base: u64, size: usize, text: &[u8]) -> Option<u64>
     requires { 0 < base }
     ensures { result ≡ front_number base size text.now }
 {
-    if size <= text.len() { number(base, text.split_at(size).0) } else { None }
+    if size <= text.len() {
+        number(base, text.split_at(size).0)
+    } else {
+        None
+    }
 }
 
 fn ascii(size: usize, code: u64) -> Option<(Meaning, usize)>
     ensures { result ≡ ascii size code }
 {
-    if code <= 127 { Some((Meaning::Byte(code as u8), size)) } else { None }
+    if code <= 127 {
+        Some((Meaning::Byte(code as u8), size))
+    } else {
+        None
+    }
 }
 
 fn scalar(size: usize, code: u64) -> Option<(Meaning, usize)>
@@ -153,7 +165,11 @@ fn raw_pair(text: &[u8]) -> Option<(Meaning, usize)>
         return Some((Meaning::Kept(b'\n'), 1 + size));
     }
     let byte = byte_at(text, 0);
-    if is_visible(byte) { Some((Meaning::Kept(byte), 2)) } else { None }
+    if is_visible(byte) {
+        Some((Meaning::Kept(byte), 2))
+    } else {
+        None
+    }
 }
 
 #[tactic(auto, unfolding(crate::specs::Strings::plain))]
@@ -161,10 +177,18 @@ fn plain(triple: bool, text: &[u8]) -> Option<(Meaning, usize)>
     ensures { result ≡ plain triple text.now }
 {
     if let Some(size) = line_end(text) {
-        return if triple { Some((Meaning::Byte(b'\n'), size)) } else { None };
+        return if triple {
+            Some((Meaning::Byte(b'\n'), size))
+        } else {
+            None
+        };
     }
     let byte = byte_at(text, 0);
-    if is_visible(byte) { Some((Meaning::Byte(byte), 1)) } else { None }
+    if is_visible(byte) {
+        Some((Meaning::Byte(byte), 1))
+    } else {
+        None
+    }
 }
 
 #[tactic(auto, unfolding(crate::specs::Strings::item))]
@@ -174,7 +198,11 @@ fn item(style: Style, text: &[u8]) -> Option<(Meaning, usize)>
     if byte_at(text, 0) != b'\\' {
         return plain(style.triple, text);
     }
-    if style.raw { raw_pair(behind(text, 1)) } else { escape(behind(text, 1)) }
+    if style.raw {
+        raw_pair(behind(text, 1))
+    } else {
+        escape(behind(text, 1))
+    }
 }
 
 fn is_tripled(quote: u8, text: &[u8]) -> bool
@@ -187,7 +215,11 @@ fn is_tripled(quote: u8, text: &[u8]) -> bool
 fn closes(style: Style, text: &[u8]) -> bool
     ensures { result ≡ closes style text.now }
 {
-    if style.triple { is_tripled(style.quote, text) } else { byte_at(text, 0) == style.quote }
+    if style.triple {
+        is_tripled(style.quote, text)
+    } else {
+        byte_at(text, 0) == style.quote
+    }
 }
 
 fn quotes(style: Style) -> usize

@@ -1,5 +1,4 @@
-use Rattle.std.proofs.Common.{rules, arith, ◌≡◌, ◌<◌, sym, ◌∙◌, length, ap}
-use Rattle.star_lex.specs.Integers.{number, within_last}
+use Rattle.std.proofs.Common.{rules, arith, ◌<◌, sym, ◌∙◌}
 use Rattle.star_lex.proofs.Numbers.{within_last-step, within_last-no_digit, within_last-over, within_last-all, number-some, up_to_last-low, up_to_last-high}
 use Rattle.star_lex.proofs.integers.number.Goals as goal
 

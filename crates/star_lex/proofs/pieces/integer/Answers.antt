@@ -1,4 +1,4 @@
-use Rattle.std.proofs.Common.{◌≡◌, ℕ, List, true, false, take, drop, None, rules, arith, refl, ap, sym, ◌∙◌}
+use Rattle.std.proofs.Common.{◌≡◌, true, take, drop, None, rules}
 use Rattle.star_lex.specs.Integers.{begins_fraction, integer_of}
 use Rattle.star_lex.proofs.PieceLaws.{IsInteger-fraction, IsInteger-no_value}
 use Rattle.star_lex.proofs.pieces.integer.Goals as goal

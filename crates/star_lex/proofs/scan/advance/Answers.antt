@@ -1,4 +1,4 @@
-use Rattle.std.proofs.Common.{◌≡◌, List, ℕ, None, subst, take, rules}
+use Rattle.std.proofs.Common.{◌≡◌, List, ℕ, None, subst, take}
 use Rattle.star_lex.specs.Layouts.{laid}
 use Rattle.star_lex.proofs.PieceLaws.{IsPiece-within}
 use Rattle.star_lex.proofs.ScanLaws.{IsStep-unlaid}

@@ -1,4 +1,4 @@
-use Rattle.std.proofs.Common.{rules, arith, ◌≡◌, ◌-◌, ◌≤◌, length, drop, Some, subst, sym, ℕ, ◌+◌, ◌++◌, List}
+use Rattle.std.proofs.Common.{rules, arith, ◌≡◌, ◌-◌, length, Some, subst, sym, ℕ, ◌+◌, ◌++◌, List}
 use Rattle.std.proofs.lemmas.List.{length-drop}
 use Rattle.star_lex.specs.Strings.{Contents, item, bytes_of}
 use Rattle.star_lex.proofs.StringItems.{item-within}
@@ -18,7 +18,7 @@ items-preserved c =
     let next = Continues-step c.args.style c.args.text.now c.items.value.items c.items.rest.now c.in-Some.meaning c.in-Some.size c.items.invariant (search rules) first in
     let pushed : c.push_meaning.new.value.items ≡ c.items.value.items ++ bytes_of c.in-Some.meaning = c.in_ok-push_meaning-in-Some.ensures in
     subst (λ (v : List ℕ). Continues c.args.style c.args.text.now v c.behind-rest.result.now) (sym pushed)
-      (subst (λ (r : List ℕ). Continues c.args.style c.args.text.now (c.items.value.items ++ bytes_of c.in-Some.meaning) r) (sym c.behind-rest.ensures) next)
+    (subst (λ (r : List ℕ). Continues c.args.style c.args.text.now (c.items.value.items ++ bytes_of c.in-Some.meaning) r) (sym c.behind-rest.ensures) next)
 
 pub returns : goal.returns
 returns c =

@@ -1,7 +1,7 @@
-use Rattle.std.proofs.Common.{◌≡◌, ◌≤◌, ◌<◌, ◌-◌, ◌+◌, List, ℕ, length, drop, arith, ap, sym, subst, rules}
+use Rattle.std.proofs.Common.{◌≡◌, ◌≤◌, ◌<◌, List, ℕ, length, drop, arith, ap, sym, subst, rules}
 use Rattle.std.proofs.lemmas.List.{length-drop}
 use Rattle.star_lex.specs.declared.strings.Style.{Style}
-use Rattle.star_lex.specs.Strings.{Contents, IsString, opening, style_of}
+use Rattle.star_lex.specs.Strings.{Contents, opening, style_of}
 use Rattle.star_lex.proofs.StringContents.{style_of-quote, Contents-within, IsString-no_text}
 use Rattle.star_lex.proofs.strings.string.Goals as goal
 

@@ -1,6 +1,5 @@
-use Rattle.std.proofs.Common.{◌≡◌, List, ℕ, ap, subst, sym, ◌∙◌, string_bytes}
+use Rattle.std.proofs.Common.{◌≡◌, List, ℕ, ap, subst, ◌∙◌, string_bytes}
 use Rattle.std.specs.Str.{IsUtf8}
-use Rattle.std.specs.String.{string_vec}
 use Rattle.std.proofs.lemmas.Str.{IsUtf8-string_bytes}
 use Rattle.star_lex.proofs.strings.text_of.Goals as goal
 
