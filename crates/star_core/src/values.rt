@@ -1,0 +1,17 @@
+//! Values: what isn't small lies in a cell of the heap and is named by its place there.
+use bz_base::Txt;
+
+#[derive(Clone, Copy, Debug, PartialEq, Eq)]
+pub enum Val {
+    None,
+    Bool(bool),
+    Int(i64),
+    Cell(u32),
+}
+
+/// A value under a name.
+#[derive(Debug, Drop)]
+pub struct NamedVal {
+    pub name: Txt,
+    pub value: Val,
+}

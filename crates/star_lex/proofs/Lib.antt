@@ -1,0 +1,9 @@
+pub mod LayoutLaws
+pub mod MarkLengths
+pub mod Numbers
+pub mod PieceLaws
+pub mod RunLengths
+pub mod ScanLaws
+pub mod SliceLaws
+pub mod StringContents
+pub mod StringItems

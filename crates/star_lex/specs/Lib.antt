@@ -1,0 +1,11 @@
+pub mod Answers
+pub mod Bytes
+pub mod Integers
+pub mod Layouts
+pub mod Marks
+pub mod Pieces
+pub mod Runs
+pub mod Slices
+pub mod Strings
+pub mod Tokens
+pub mod Words

@@ -1,0 +1,57 @@
+//! One pass over a text: the piece at the front of what is left is laid out, until nothing is left.
+ghost use Rattle.std.specs.Prelude.{◌≡◌, ◌≤◌, ◌<◌, ◌+◌, ◌^◌, ℕ, length, IfOk};
+ghost use Rattle.star_lex.specs.Answers.{Answers};
+ghost use Rattle.star_lex.specs.Slices.{AreSlices};
+ghost use Rattle.star_lex.specs.Tokens.{IsStep, Lexes, Scanned};
+ghost use Rattle.star_lex.specs.declared.layout.Layout.{Layout};
+
+use crate::layout::Layout;
+use crate::pieces::front_piece;
+use crate::strings::behind;
+use crate::token::{LexFault, NoPiece, Token};
+use bz_base::{May, Miss, Seq};
+use std::alloc::Global;
+
+/// Lays out the piece at the front of the rest, and gives its length.
+fn advance(alloc: Global, layout: &mut Layout, rest: &[u8]) -> May<usize, NoPiece>
+    requires room { layout.old.at + length rest.now < 2 ^ 63 }
+    requires lined { layout.old.line ≤ layout.old.at + 1 }
+    requires nested { layout.old.depth ≤ layout.old.at }
+    ensures { Answers (λ n. IsStep layout.old rest.now layout.new n) ((t : Layout) (n : ℕ) → IsStep layout.old rest.now t n → ⊥) result }
+{
+    match front_piece(alloc, rest) {
+        Ok((piece, size)) => {
+            let (front, _) = rest.split_at(size);
+            match layout.lay(piece, front) {
+                Ok(()) => Ok(size),
+                Err(Miss::Because(NoPiece)) => Err(Miss::Because(NoPiece)),
+                Err(Miss::OutOfMemory) => Err(Miss::OutOfMemory),
+            }
+        }
+        Err(Miss::Because(NoPiece)) => Err(Miss::Because(NoPiece)),
+        Err(Miss::OutOfMemory) => Err(Miss::OutOfMemory),
+    }
+}
+
+/// The tokens of a text.
+pub fn tokens(alloc: Global, text: &str) -> May<Seq<Token>, LexFault>
+    ensures exact { Scanned text.now result }
+    ensures placed { IfOk result (λ tokens. AreSlices text.now 0 tokens (length text.now)) }
+{
+    let mut layout = Layout::new(alloc);
+    let mut rest = text.as_bytes();
+    'pieces: while rest.len() > 0 {
+        let line = layout.line;
+        match advance(alloc, &mut layout, rest) {
+            Ok(size) => rest = behind(rest, size),
+            Err(Miss::Because(NoPiece)) => {
+                return Err(Miss::Because(LexFault { hint: line }));
+            }
+            Err(Miss::OutOfMemory) => return Err(Miss::OutOfMemory),
+        }
+    }
+    match layout.end() {
+        Ok(tokens) => Ok(tokens),
+        Err(_) => Err(Miss::OutOfMemory),
+    }
+}
