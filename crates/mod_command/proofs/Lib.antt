@@ -1,4 +1,8 @@
 pub mod Cuts
+pub mod LiteralDirectives
+pub mod LiteralFiles
+pub mod LiteralMarks
+pub mod LiteralOrders
 pub mod LiteralPieces
 pub mod LiteralTexts
 pub mod Pieces

@@ -1,6 +1,7 @@
 pub mod Commands
 pub mod Graphs
 pub mod LiteralForms
+pub mod LiteralGrammar
 pub mod LiteralLines
 pub mod Printing
 pub mod RootFiles

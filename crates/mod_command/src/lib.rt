@@ -3,6 +3,7 @@
 
 mod command;
 mod graph;
+pub mod laws;
 mod literal_form;
 mod literal_line;
 mod printing;
