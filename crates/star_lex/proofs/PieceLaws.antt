@@ -39,7 +39,7 @@ IsInteger-no_value text size run none piece n integer =
 pub class-hash : (b : ℕ) → class_of b ≡ Hash → belongs Comment b ≡ true
 class-hash b h = grind (arith, nat_tests)
 
-pub class-quote : (b : ℕ) → class_of b ≡ Quote → (is_quote b ≡ true) × (0 < b)
+class-quote : (b : ℕ) → class_of b ≡ Quote → is_quote b ≡ true
 class-quote b h = grind (arith, nat_tests)
 
 -- a byte that is ASCII, and not 0
@@ -132,9 +132,9 @@ raw-quote text raw =
 pub plain-quote : (text : List ℕ) → class_of (slice_index text 0) ≡ Quote → IsLow (slice_index text (prefix text))
 plain-quote text class =
     let quote = class-quote (slice_index text 0) class in
-    let e : is_raw text ≡ false = not-raw text quote.0 in
+    let e : is_raw text ≡ false = not-raw text quote in
     let f : prefix text ≡ 0 = rw e refl in
-    rw f (quote-low (slice_index text 0) quote.0)
+    rw f (quote-low (slice_index text 0) quote)
 
 IsLettered-within : (raw : Bool) (text : List ℕ) (piece : Piece) (n : ℕ) → is_raw text ≡ raw → belongs Word (slice_index text 0) ≡ true → IsLettered raw text piece n → Within text n
 IsLettered-within true text piece n raw begun one = IsString-within text one.value n (raw-quote text raw).0 one.string
