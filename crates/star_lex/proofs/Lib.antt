@@ -7,3 +7,5 @@ pub mod ScanLaws
 pub mod SliceLaws
 pub mod StringContents
 pub mod StringItems
+pub mod TextItems
+pub mod TextPieces

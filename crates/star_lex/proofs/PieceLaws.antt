@@ -39,11 +39,15 @@ IsInteger-no_value text size run none piece n integer =
 pub class-hash : (b : ℕ) → class_of b ≡ Hash → belongs Comment b ≡ true
 class-hash b h = grind (arith, nat_tests)
 
-pub class-quote : (b : ℕ) → class_of b ≡ Quote → (is_quote b ≡ true) × (0 < b)
+class-quote : (b : ℕ) → class_of b ≡ Quote → is_quote b ≡ true
 class-quote b h = grind (arith, nat_tests)
 
-quote-some : (b : ℕ) → is_quote b ≡ true → 0 < b
-quote-some b h = grind (arith, nat_tests)
+-- a byte that is ASCII, and not 0
+abbrev pub IsLow : ℕ → Type 0
+IsLow b = (0 < b) × (b < 128)
+
+quote-low : (b : ℕ) → is_quote b ≡ true → IsLow b
+quote-low b h = grind (arith, nat_tests)
 
 not-raw-by : (b c : ℕ) → is_quote b ≡ true → (eqb b 114 && is_quote c) ≡ false
 not-raw-by b c h = grind (arith, nat_tests)
@@ -120,27 +124,27 @@ Within text n = (0 < n) × (n ≤ length text)
 run-within : (test : ℕ → Bool) (text : List ℕ) (n : ℕ) → IsRun test text n → test (slice_index text 0) ≡ true → Within text n
 run-within test text n run begun = (IsRun-begun test text n run begun, run.within)
 
-raw-quote : (text : List ℕ) → is_raw text ≡ true → 0 < slice_index text (prefix text)
+pub raw-quote : (text : List ℕ) → is_raw text ≡ true → IsLow (slice_index text (prefix text))
 raw-quote text raw =
     let e : prefix text ≡ 1 = rw raw refl in
-    rw e (quote-some (slice_index text 1) (and_parts (eqb (slice_index text 0) 114) (is_quote (slice_index text 1)) raw).1)
+    rw e (quote-low (slice_index text 1) (and_parts (eqb (slice_index text 0) 114) (is_quote (slice_index text 1)) raw).1)
 
-plain-quote : (text : List ℕ) → class_of (slice_index text 0) ≡ Quote → 0 < slice_index text (prefix text)
+pub plain-quote : (text : List ℕ) → class_of (slice_index text 0) ≡ Quote → IsLow (slice_index text (prefix text))
 plain-quote text class =
     let quote = class-quote (slice_index text 0) class in
-    let e : is_raw text ≡ false = not-raw text quote.0 in
+    let e : is_raw text ≡ false = not-raw text quote in
     let f : prefix text ≡ 0 = rw e refl in
-    rw f quote.1
+    rw f (quote-low (slice_index text 0) quote)
 
 IsLettered-within : (raw : Bool) (text : List ℕ) (piece : Piece) (n : ℕ) → is_raw text ≡ raw → belongs Word (slice_index text 0) ≡ true → IsLettered raw text piece n → Within text n
-IsLettered-within true text piece n raw begun one = IsString-within text one.value n (raw-quote text raw) one.string
+IsLettered-within true text piece n raw begun one = IsString-within text one.value n (raw-quote text raw).0 one.string
 IsLettered-within false text piece n raw begun one = run-within (belongs Word) text n one.run begun
 
-IsOfClass-within : (class : Class) (text : List ℕ) (piece : Piece) (n : ℕ) → class_of (slice_index text 0) ≡ class → IsOfClass class text piece n → Within text n
+pub IsOfClass-within : (class : Class) (text : List ℕ) (piece : Piece) (n : ℕ) → class_of (slice_index text 0) ≡ class → IsOfClass class text piece n → Within text n
 IsOfClass-within Space text piece n e one = run-within (belongs Blank) text n one.run (ap is_blank_class e)
 IsOfClass-within Letter text piece n e one = IsLettered-within (is_raw text) text piece n refl (ap is_word_class e) one
 IsOfClass-within Digit text piece n e one = run-within (belongs Word) text n one.run (ap is_word_class e)
-IsOfClass-within Quote text piece n e one = IsString-within text one.value n (plain-quote text e) one.string
+IsOfClass-within Quote text piece n e one = IsString-within text one.value n (plain-quote text e).0 one.string
 IsOfClass-within Hash text piece n e one = run-within (belongs Comment) text n one.run (class-hash (slice_index text 0) e)
 IsOfClass-within Backslash text piece n e one =
     let feed = line_end-within (drop 1 text) one.feed one.ends in

@@ -17,7 +17,7 @@ pub belongs-past : (within : Within) (text : List ℕ) (n : ℕ) → length text
 belongs-past within text n h = ap (belongs within) (get_or_past text n 0 h) ∙ belongs-end within
 
 -- each byte among the first n passes
-each-at : (test : ℕ → Bool) (text : List ℕ) (n m : ℕ) → list_all test (take n text) ≡ true → m < n → m < length text → test (slice_index text m) ≡ true
+pub each-at : (test : ℕ → Bool) (text : List ℕ) (n m : ℕ) → list_all test (take n text) ≡ true → m < n → m < length text → test (slice_index text m) ≡ true
 each-at test [] n m h l w = absurd (omega arith)
 each-at test (b ∷ text) zero m h l w = absurd (omega arith)
 each-at test (b ∷ text) (suc n) zero h l w = (and_parts _ _ h).0

@@ -1,5 +1,5 @@
 -- A text is read piece by piece in one way: what completes the rest completes the whole, and whatever reads the whole goes through what is out so far.
-use Rattle.std.proofs.Common.{◌≡◌, ℕ, ◌<◌, ◌≤◌, ◌+◌, ◌-◌, List, [], ◌∷◌, length, take, drop, Option, Some, None, refl, arith, sym, subst, ap, ◌∙◌}
+use Rattle.std.proofs.Common.{◌≡◌, ℕ, ◌<◌, ◌≤◌, ◌+◌, ◌-◌, List, [], ◌∷◌, length, take, drop, Option, Some, None, refl, arith, sym, subst, ap, ◌∙◌, IsUtf8}
 use Rattle.std.proofs.lemmas.List.{length-drop, length-take-le}
 use Rattle.star_lex.specs.declared.token.Token.{Token}
 use Rattle.star_lex.specs.declared.pieces.Piece.{Piece}
@@ -10,6 +10,7 @@ use Rattle.star_lex.specs.Tokens.{IsStep, LexesFrom, Lexes}
 use Rattle.star_lex.specs.Tokens.LexesFrom.{ends, goes}
 use Rattle.star_lex.proofs.PieceLaws.{IsPiece-unique, IsPiece-within}
 use Rattle.star_lex.proofs.StringContents.{none-some}
+use Rattle.star_lex.proofs.TextPieces.{IsPiece-utf8}
 use Rattle.star_lex.proofs.LayoutLaws.{IsBounded, laid-bounded}
 
 abbrev layout_or : Layout → Option Layout → Layout
@@ -53,18 +54,20 @@ LexesFrom-stuck : (s : Layout) (text : List ℕ) (tokens : List Token) → 0 < l
 LexesFrom-stuck s text tokens some none (ends _) = absurd (omega arith)
 LexesFrom-stuck s text tokens some none (goes _ t _ n _ step more) = none t n step
 
--- the layout so far and the rest of the text, beside the whole text
+-- the layout so far and the rest of the text, which is UTF-8, beside the whole text
 pub record Scans (whole : List ℕ) (s : Layout) (rest : List ℕ) : Type 0 where
   pub placed : s.at + length rest ≡ length whole
   pub bounded : IsBounded s
+  pub utf8 : IsUtf8 rest
   pub completes : (tokens : List Token) → LexesFrom s rest tokens → Lexes whole tokens
   pub only : (tokens : List Token) → Lexes whole tokens → LexesFrom s rest tokens
 
-pub Scans-start : (whole : List ℕ) → Scans whole start whole
+pub Scans-start : (whole : List ℕ) → IsUtf8 whole → Scans whole start whole
 unfolding Lexes
-Scans-start whole = record {
+Scans-start whole utf8 = record {
   placed = omega arith;
   bounded = record { line = omega arith; depth = omega arith };
+  utf8 = utf8;
   completes = λ tokens lexes. lexes;
   only = λ tokens lexes. lexes;
 }
@@ -80,6 +83,7 @@ Scans-step whole s rest t n so_far step =
     record {
       placed = omega arith;
       bounded = next.1;
+      utf8 = IsPiece-utf8 rest step.piece n so_far.utf8 step.stands;
       completes = λ tokens lexes. so_far.completes tokens (goes s t rest n tokens step lexes);
       only = λ tokens lexes. LexesFrom-gone s rest t n tokens step (so_far.only tokens lexes);
     }

@@ -4,7 +4,6 @@ use Rattle.std.proofs.lemmas.Bool.{and_parts, both_ways, eqb-true}
 use Rattle.std.proofs.lemmas.List.{append_assoc, append-nil, length-drop}
 use Rattle.star_lex.specs.declared.strings.Style.{Style}
 use Rattle.star_lex.specs.declared.strings.Meaning.{Meaning}
-use Rattle.std.specs.Str.{IsUtf8}
 use Rattle.star_lex.specs.Strings.{Contents, closes, item, bytes_of, quotes, is_tripled, IsString, style_of, opening, prefix}
 use Rattle.star_lex.specs.Strings.Contents.{ends, goes}
 use Rattle.star_lex.proofs.StringItems.{item-within}
@@ -145,24 +144,18 @@ pub style_of-quote : (text : List ℕ) → (style_of text).quote ≡ slice_index
 unfolding style_of
 style_of-quote text = refl
 
-pub IsString-made : (text value : List ℕ) (size n : ℕ) → Contents (style_of text) (drop (opening text) text) value size → n ≡ opening text + size → IsUtf8 value → IsString text value n
-IsString-made text value size n contents whole utf8 = record { size = size; contents = contents; whole = whole; utf8 = utf8 }
+pub IsString-made : (text value : List ℕ) (size n : ℕ) → Contents (style_of text) (drop (opening text) text) value size → n ≡ opening text + size → IsString text value n
+IsString-made text value size n contents whole = record { size = size; contents = contents; whole = whole }
 
 pub IsString-absent : (text : List ℕ) → ((value : List ℕ) (n : ℕ) → Contents (style_of text) (drop (opening text) text) value n → ⊥) → (value : List ℕ) (n : ℕ) → IsString text value n → ⊥
 IsString-absent text none value n string = none value string.size string.contents
-
--- a value that is no text makes no string
-pub IsString-no_text : (text bytes : List ℕ) (size : ℕ) → Contents (style_of text) (drop (opening text) text) bytes size → (IsUtf8 bytes → ⊥) → (value : List ℕ) (n : ℕ) → IsString text value n → ⊥
-IsString-no_text text bytes size contents none value n string =
-    let same = Contents-unique (style_of text) (drop (opening text) text) value bytes string.size size string.contents contents in
-    none (subst (λ (v : List ℕ). IsUtf8 v) same.0 string.utf8)
 
 pub IsString-unique : (text value other : List ℕ) (n m : ℕ) → IsString text value n → IsString text other m → (value ≡ other) × (n ≡ m)
 IsString-unique text value other n m one two =
     let same = Contents-unique (style_of text) (drop (opening text) text) value other one.size two.size one.contents two.contents in
     (same.0, one.whole ∙ (ap (λ (k : ℕ). opening text + k) same.1 ∙ sym two.whole))
 
-quotes-some : (triple : Bool) → 0 < cond triple 3 1
+pub quotes-some : (triple : Bool) → 0 < cond triple 3 1
 quotes-some true = omega arith
 quotes-some false = omega arith
 
@@ -170,7 +163,7 @@ Contents-some : (style : Style) (text value : List ℕ) (n : ℕ) → Contents s
 Contents-some style text value n (ends _ here) = quotes-some style.triple
 Contents-some style text value n (goes _ more meaning size left unended first contents) = let inside = item-within style text meaning size first in omega arith
 
-opening-some : (text : List ℕ) → 0 < opening text
+pub opening-some : (text : List ℕ) → 0 < opening text
 opening-some text = let some : 0 < quotes (style_of text) = quotes-some (style_of text).triple in omega arith
 
 pub IsString-within : (text value : List ℕ) (n : ℕ) → 0 < slice_index text (prefix text) → IsString text value n → (0 < n) × (n ≤ length text)

@@ -1,7 +1,6 @@
 -- Strings and their escapes: the Starlark specification, "Lexical elements".
 use Rattle.std.specs.Prelude.{◌≡◌, ℕ, ◌+◌, Bool, true, false, not, ◌||◌, ◌&&◌, ◌==◌, if◌then◌else◌, List, [], ◌∷◌, ◌++◌, length, take, drop, slice_index, Option, Some, None, option_and_then, nat_lt, nat_le}
 use Rattle.std.specs.Char.{encode_utf8}
-use Rattle.std.specs.Str.{IsUtf8}
 use Rattle.star_lex.specs.declared.strings.Style.{Style}
 use Rattle.star_lex.specs.declared.strings.Meaning.{Meaning}
 use Rattle.star_lex.specs.declared.strings.Meaning.TheVariants.{Nothing, Byte, Kept, Scalar}
@@ -134,9 +133,8 @@ pub data Contents (style : Style) : List ℕ → List ℕ → ℕ → Type 0 whe
 abbrev pub opening : List ℕ → ℕ
 opening text = prefix text + quotes (style_of text)
 
--- a string at the front, with its value, which is a text, and its length
+-- a string at the front, with its value and its length
 pub record IsString (text value : List ℕ) (n : ℕ) : Type 0 where
   pub size : ℕ
   pub contents : Contents (style_of text) (drop (opening text) text) value size
   pub whole : n ≡ opening text + size
-  pub utf8 : IsUtf8 value

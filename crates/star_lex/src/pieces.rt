@@ -1,5 +1,6 @@
 //! The pieces of a text. Each function reads the one at the front by the class of its first byte.
 ghost use Rattle.std.specs.Prelude.{◌≡◌, ◌<◌, ◌≤◌, ℕ, pos, length, slice_index};
+ghost use Rattle.std.specs.Str.{IsUtf8};
 ghost use Rattle.star_lex.specs.Answers.{Answers};
 ghost use Rattle.star_lex.specs.Bytes.{class_of};
 ghost use Rattle.star_lex.specs.Pieces.{IsGap, IsInteger, IsJoin, IsLettered, IsLineEnd, IsOfClass, IsPiece, IsPunctuation, IsQuoted, IsRemark, IsWord};
@@ -70,7 +71,9 @@ fn integer(text: &[u8]) -> May<(Piece, usize), NoPiece>
 }
 
 fn quoted(alloc: Global, text: &[u8]) -> May<(Piece, usize), NoPiece>
-    requires { 0 < slice_index text.now (prefix text.now) }
+    requires some { 0 < slice_index text.now (prefix text.now) }
+    requires ascii { slice_index text.now (prefix text.now) < 128 }
+    requires utf8 { IsUtf8 text.now }
     ensures { Answers (λ found. IsQuoted text.now found.0 found.1) ((piece : Piece) (n : ℕ) → IsQuoted text.now piece n → ⊥) result }
 {
     match string(alloc, text) {
@@ -81,6 +84,7 @@ fn quoted(alloc: Global, text: &[u8]) -> May<(Piece, usize), NoPiece>
 }
 
 fn lettered(alloc: Global, text: &[u8]) -> May<(Piece, usize), NoPiece>
+    requires { IsUtf8 text.now }
     ensures { Answers (λ found. IsLettered (is_raw text.now) text.now found.0 found.1) ((piece : Piece) (n : ℕ) → IsLettered (is_raw text.now) text.now piece n → ⊥) result }
 {
     if is_raw(text) {
@@ -118,7 +122,8 @@ fn punctuation(text: &[u8]) -> May<(Piece, usize), NoPiece>
 }
 
 fn piece_of_class(alloc: Global, class: Class, text: &[u8]) -> May<(Piece, usize), NoPiece>
-    requires { class ≡ class_of (slice_index text.now 0) }
+    requires first { class ≡ class_of (slice_index text.now 0) }
+    requires utf8 { IsUtf8 text.now }
     ensures { Answers (λ found. IsOfClass class text.now found.0 found.1) ((piece : Piece) (n : ℕ) → IsOfClass class text.now piece n → ⊥) result }
 {
     match class {
@@ -136,6 +141,7 @@ fn piece_of_class(alloc: Global, class: Class, text: &[u8]) -> May<(Piece, usize
 /// The piece at the front of a text, and its length.
 #[tactic(auto, unfolding(crate::specs::Pieces::IsPiece))]
 pub(crate) fn front_piece(alloc: Global, text: &[u8]) -> May<(Piece, usize), NoPiece>
+    requires { IsUtf8 text.now }
     ensures { Answers (λ found. IsPiece text.now found.0 found.1) ((piece : Piece) (n : ℕ) → IsPiece text.now piece n → ⊥) result }
 {
     piece_of_class(alloc, class_of(byte_at(text, 0)), text)

@@ -1,5 +1,6 @@
 //! One pass over a text: the piece at the front of what is left is laid out, until nothing is left.
 ghost use Rattle.std.specs.Prelude.{◌≡◌, ◌≤◌, ◌<◌, ◌+◌, ◌^◌, ℕ, length, IfOk};
+ghost use Rattle.std.specs.Str.{IsUtf8};
 ghost use Rattle.star_lex.specs.Answers.{Answers};
 ghost use Rattle.star_lex.specs.Slices.{AreSlices};
 ghost use Rattle.star_lex.specs.Tokens.{IsStep, Lexes, Scanned};
@@ -17,6 +18,7 @@ fn advance(alloc: Global, layout: &mut Layout, rest: &[u8]) -> May<usize, NoPiec
     requires room { layout.old.at + length rest.now < 2 ^ 63 }
     requires lined { layout.old.line ≤ layout.old.at + 1 }
     requires nested { layout.old.depth ≤ layout.old.at }
+    requires utf8 { IsUtf8 rest.now }
     ensures { Answers (λ n. IsStep layout.old rest.now layout.new n) ((t : Layout) (n : ℕ) → IsStep layout.old rest.now t n → ⊥) result }
 {
     match front_piece(alloc, rest) {

@@ -1,5 +1,5 @@
 //! Strings. `Style` says how one is written, an item is one character or escape of it, and `string` gives the value of the one at the front.
-ghost use Rattle.std.specs.Prelude.{◌≡◌, ◌≤◌, ◌<◌, ◌+◌, ◌++◌, ◌∷◌, [], ℕ, List, length, drop, slice_index, OnOk, IfSome, IfNone, option_and_then};
+ghost use Rattle.std.specs.Prelude.{◌≡◌, ◌≤◌, ◌<◌, ◌+◌, ◌++◌, ◌∷◌, [], ℕ, List, length, drop, slice_index, OnOk, option_and_then};
 ghost use Rattle.std.specs.Char.{encode_utf8};
 ghost use Rattle.std.specs.Str.{IsUtf8};
 ghost use Rattle.star_lex.specs.Answers.{Answers};
@@ -309,14 +309,14 @@ fn contents(alloc: Global, style: Style, text: &[u8]) -> May<(Vec<u8>, usize), N
     Ok((value, text.len() - rest.len() + quotes(style)))
 }
 
-/// Bytes as a text, where they are one.
-fn text_of(bytes: Vec<u8>) -> Option<Txt>
-    ensures found { IfSome result (λ text. (text ≡ bytes.items) × IsUtf8 bytes.items) }
-    ensures absent { IfNone result (IsUtf8 bytes.items → ⊥) }
+/// The text of these bytes.
+fn text_of(bytes: Vec<u8>) -> Txt
+    requires { IsUtf8 bytes.items }
+    ensures { result ≡ bytes.items }
 {
     match String::from_utf8(bytes) {
-        Ok(text) => Some(Txt::of_string(text)),
-        Err(_) => None,
+        Ok(text) => Txt::of_string(text),
+        Err(_) => unreachable!(),
     }
 }
 
@@ -329,15 +329,14 @@ fn opening(text: &[u8]) -> usize
 
 /// The value of the string at the front, and its length.
 pub(crate) fn string(alloc: Global, text: &[u8]) -> May<(Txt, usize), NoPiece>
-    requires { 0 < slice_index text.now (prefix text.now) }
+    requires some { 0 < slice_index text.now (prefix text.now) }
+    requires ascii { slice_index text.now (prefix text.now) < 128 }
+    requires utf8 { IsUtf8 text.now }
     ensures { Answers (λ found. IsString text.now found.0 found.1) ((value : List ℕ) (n : ℕ) → IsString text.now value n → ⊥) result }
 {
     let before = opening(text);
     match contents(alloc, style_of(text), behind(text, before)) {
-        Ok((bytes, size)) => match text_of(bytes) {
-            Some(value) => Ok((value, before + size)),
-            None => Err(Miss::Because(NoPiece)),
-        },
+        Ok((bytes, size)) => Ok((text_of(bytes), before + size)),
         Err(miss) => Err(miss),
     }
 }

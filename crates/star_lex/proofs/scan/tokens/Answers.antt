@@ -1,4 +1,4 @@
-use Rattle.std.proofs.Common.{List, ℕ, subst, sym, arith}
+use Rattle.std.proofs.Common.{List, ℕ, subst, sym, arith, IsUtf8}
 use Rattle.std.proofs.lemmas.List.{length-drop}
 use Rattle.star_lex.specs.declared.layout.Layout.{Layout}
 use Rattle.star_lex.specs.declared.token.Token.{Token}
@@ -10,8 +10,9 @@ use Rattle.star_lex.proofs.scan.tokens.Goals as goal
 
 pub pieces-init : goal.pieces-init
 pieces-init c =
+    let utf8 : IsUtf8 c.args.text.now = subst (λ (bytes : List ℕ). IsUtf8 bytes) c.as_bytes-rest.ensures.value c.as_bytes-rest.ensures.utf8 in
     subst (λ (s : Layout). Scans c.args.text.now s c.as_bytes-rest.result.now) (sym c.new-layout.ensures)
-    (subst (λ (rest : List ℕ). Scans c.args.text.now start rest) (sym c.as_bytes-rest.ensures.value) (Scans-start c.args.text.now))
+    (subst (λ (rest : List ℕ). Scans c.args.text.now start rest) (sym c.as_bytes-rest.ensures.value) (Scans-start c.args.text.now utf8))
 
 pub pieces-smaller : goal.pieces-smaller
 pieces-smaller c =
