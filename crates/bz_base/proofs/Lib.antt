@@ -1,1 +1,4 @@
+pub mod CutLists
+pub mod PlainLayers
+pub mod SegmentCuts
 pub mod Segments
