@@ -10,12 +10,12 @@ use Rattle.bz_base.specs.declared.plain_labels.NotPlain.{NotPlain}
 use Rattle.bz_base.specs.declared.plain_values.Plain.{Plain}
 use Rattle.std.specs.Prelude.{Result}
 
-items_within-suc : (depth : ℕ) (jsons : Items) → each_after (plain_within depth) (Ok []) jsons ≡ items_within (suc depth) jsons
+pub items_within-suc : (depth : ℕ) (jsons : Items) → each_after (plain_within depth) (Ok []) jsons ≡ items_within (suc depth) jsons
 items_within-suc depth jsons =
     let one_less : depth ≡ suc depth - 1 = omega arith in
     rw (ne_eqb (suc depth) 0 (λ e. absurd (omega arith))) (ap (λ n. each_after (plain_within n) (Ok []) jsons) one_less)
 
-pairs_within-suc : (depth : ℕ) (jsons : Items) → each_after (pair_of (plain_within depth)) (Ok []) jsons ≡ pairs_within (suc depth) jsons
+pub pairs_within-suc : (depth : ℕ) (jsons : Items) → each_after (pair_of (plain_within depth)) (Ok []) jsons ≡ pairs_within (suc depth) jsons
 pairs_within-suc depth jsons =
     let one_less : depth ≡ suc depth - 1 = omega arith in
     rw (ne_eqb (suc depth) 0 (λ e. absurd (omega arith))) (ap (λ n. each_after (pair_of (plain_within n)) (Ok []) jsons) one_less)

@@ -14,6 +14,7 @@ abbrev pub is_label : Label → Bool
 is_label label =
     is_canonical label.repo && (is_package label.package && (is_segmented label.name || (bytes_eq label.name [] && bytes_eq label.package [])))
 
+-- the label, where it is good
 abbrev pub good_label : Label → Result Label NotPlain
 good_label label = if is_label label then Ok label else Err not_plain
 
@@ -27,6 +28,7 @@ abbrev pub rooted_label : Option (List ℕ × List ℕ) → Result Label NotPlai
 rooted_label None = Err not_plain
 rooted_label (Some parts) = target_label parts.0 (cut 58 parts.1)
 
+-- what stands behind `@@` is a label without those marks
 abbrev pub marked_label : Option (List ℕ) → Result Label NotPlain
 marked_label None = Err not_plain
 marked_label (Some rest) = rooted_label (cut_at_root rest)

@@ -10,8 +10,6 @@ use Rattle.bz_base.specs.declared.plain_values.Plain.{Plain, fold-Plain}
 use Rattle.bz_base.specs.declared.plain_values.Plain.TheOpen.{Plain-F, PlainPair-F}
 use Rattle.bz_base.specs.declared.plain_values.PlainPair.{PlainPair, fold-PlainPair}
 
--- ---- what is read
-
 -- an integer of 64 bits
 abbrev pub integer_of : Num → Result Plain NotPlain
 integer_of (unsigned n) = if nat_lt n (2 ^ 63) then Ok (plain.Int (pos n)) else Err not_plain
@@ -19,6 +17,7 @@ integer_of (negative (pos n)) = Err not_plain
 integer_of (negative (negsuc n)) = if nat_lt n (2 ^ 63) then Ok (plain.Int (negsuc n)) else Err not_plain
 integer_of (float x) = Err not_plain
 
+-- the values and one more, unless it is none
 abbrev pub added : {T : Type 0} → List T → Result T NotPlain → Result (List T) NotPlain
 added values (Ok value) = Ok (values ++ value ∷ [])
 added values (Err bad) = Err bad
@@ -29,6 +28,7 @@ each_after read (Err bad) jsons = Err bad
 each_after read (Ok values) no_items = Ok values
 each_after read (Ok values) (item json jsons) = each_after read (added values (read json)) jsons
 
+-- a key and its value, unless one of them is none
 abbrev pub paired : Result Plain NotPlain → Result Plain NotPlain → Result PlainPair NotPlain
 paired (Ok key) (Ok value) = Ok (record { key = key; value = value })
 paired (Ok key) (Err bad) = Err bad
@@ -42,17 +42,21 @@ two_of read (Some (item key no_items)) = Err not_plain
 two_of read (Some (item key (item value no_items))) = paired (read key) (read value)
 two_of read (Some (item key (item value (item json jsons)))) = Err not_plain
 
+-- an array of two is a pair
 abbrev pub pair_of : (Data → Result Plain NotPlain) → Data → Result PlainPair NotPlain
 pair_of read json = two_of read (as_array json)
 
+-- the list of these values
 abbrev pub items_plain : Result (List Plain) NotPlain → Result Plain NotPlain
 items_plain (Ok values) = Ok (plain.Items values)
 items_plain (Err bad) = Err bad
 
+-- the dictionary of these pairs
 abbrev pub pairs_plain : Result (List PlainPair) NotPlain → Result Plain NotPlain
 pairs_plain (Ok values) = Ok (plain.Pairs values)
 pairs_plain (Err bad) = Err bad
 
+-- the value that is this label
 abbrev pub label_plain : Result Label NotPlain → Result Plain NotPlain
 label_plain (Ok label) = Ok (plain.Label label)
 label_plain (Err bad) = Err bad
@@ -73,6 +77,7 @@ only_member no_members = None
 only_member (member tag json no_members) = Some (tag, json)
 only_member (member tag json (member other further rest)) = None
 
+-- an object's one member stands under `label` or under `pairs`
 abbrev pub tagged_plain : (Items → Result (List PlainPair) NotPlain) → Option (List ℕ × Data) → Result Plain NotPlain
 tagged_plain pairs None = Err not_plain
 tagged_plain pairs (Some entry) =
@@ -98,6 +103,7 @@ plain_within (suc depth) json =
 abbrev pub items_within : ℕ → Items → Result (List Plain) NotPlain
 items_within depth jsons = if depth == 0 then Err not_plain else each_after (plain_within (depth - 1)) (Ok []) jsons
 
+-- nor do pairs
 abbrev pub pairs_within : ℕ → Items → Result (List PlainPair) NotPlain
 pairs_within depth jsons =
     if depth == 0 then Err not_plain else each_after (pair_of (plain_within (depth - 1))) (Ok []) jsons
@@ -106,8 +112,7 @@ pairs_within depth jsons =
 abbrev pub plain_of : Data → Result Plain NotPlain
 plain_of json = plain_within 16 json
 
--- ---- how deep a plain value is, and which are good
-
+-- the greatest of some depths, and 0 of none
 abbrev pub deepest : List ℕ → ℕ
 deepest [] = 0
 deepest (depth ∷ depths) = max depth (deepest depths)
@@ -122,19 +127,24 @@ depth_step (Plain-F.Label label) = 0
 depth_step (Plain-F.Items depths) = suc (deepest depths)
 depth_step (Plain-F.Pairs depths) = suc (deepest depths)
 
+-- a pair is as deep as the deeper of its two
 abbrev pub depth_pair_step : PlainPair-F ℕ ℕ → ℕ
 depth_pair_step pair = max pair.key pair.value
 
+-- how deep lists and dictionaries nest in a value
 abbrev pub plain_depth : Plain → ℕ
 plain_depth = fold-Plain ℕ ℕ depth_step depth_pair_step
 
+-- how deep they nest in a pair
 abbrev pub pair_depth : PlainPair → ℕ
 pair_depth = fold-PlainPair ℕ ℕ depth_step depth_pair_step
 
+-- an integer from -2^63 to 2^63 - 1
 abbrev pub has_64_bits : ℤ → Bool
 has_64_bits (pos n) = nat_lt n (2 ^ 63)
 has_64_bits (negsuc n) = nat_lt n (2 ^ 63)
 
+-- each of them is good
 abbrev pub all_good : List Bool → Bool
 all_good [] = true
 all_good (good ∷ goods) = good && all_good goods
@@ -149,11 +159,14 @@ good_step (Plain-F.Label label) = is_label label
 good_step (Plain-F.Items goods) = all_good goods
 good_step (Plain-F.Pairs goods) = all_good goods
 
+-- both of a pair are good
 abbrev pub good_pair_step : PlainPair-F Bool Bool → Bool
 good_pair_step pair = pair.key && pair.value
 
+-- a value whose labels and integers are good
 abbrev pub is_good : Plain → Bool
 is_good = fold-Plain Bool Bool good_step good_pair_step
 
+-- a pair whose labels and integers are good
 abbrev pub is_good_pair : PlainPair → Bool
 is_good_pair = fold-PlainPair Bool Bool good_step good_pair_step

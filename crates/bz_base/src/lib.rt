@@ -6,6 +6,7 @@ pub mod environment;
 pub mod extensions;
 mod label_names;
 pub mod labels;
+pub mod laws;
 pub mod memory;
 pub mod module_graph;
 pub mod module_key;
