@@ -1,22 +1,20 @@
--- What is read back.
-use Rattle.std.proofs.Common.{◌≡◌, ◌≢◌, ℕ, zero, suc, ◌≤◌, ◌+◌, max, ℤ, pos, negsuc, codes, nat_lt, IsTrue, Bool, true, false, ◌&&◌, List, [], ◌∷◌, ◌++◌, map, Result, Ok, Err, Option, Some, None, refl, ap, ◌∙◌, sym, subst, arith, rules, append-nil}
-use Rattle.std.proofs.lemmas.Bool.{and_parts, and_from, cond-true, cond-false, ne_eqb, true≢false}
-use Rattle.std.proofs.Math.Dec.{eqb}
+-- A good plain value is read back from its JSON.
+use Rattle.std.proofs.Common.{◌≡◌, ℕ, zero, suc, ◌≤◌, max, ℤ, pos, negsuc, codes, IsTrue, Bool, true, false, ◌&&◌, List, [], ◌∷◌, ◌++◌, map, Ok, Some, refl, ap, ◌∙◌, sym, subst, arith, rules, append-nil}
+use Rattle.std.proofs.lemmas.Bool.{and_parts, cond-true, ne_eqb, true≢false}
 use Rattle.std.specs.List.{list_all}
-use Rattle.serde_json.specs.Data.{Data, Num, Items, no_items, item, null, boolean, number, string, array, object}
+use Rattle.serde_json.specs.Data.{Data, no_items, item, null, boolean, number, string, array}
 use Rattle.serde_json.specs.Find.{of_integer}
 use Rattle.serde_json.specs.View.{items_of}
-use Rattle.bz_base.specs.Cuts.{behind, cut, cut_at_root}
-use Rattle.bz_base.specs.Names.{is_canonical, is_canonical_byte, is_label_byte, is_package, is_segmented}
-use Rattle.bz_base.specs.PlainLabels.{good_label, is_label, label_of, marked_label, rooted_label, target_label, not_plain}
+use Rattle.bz_base.specs.Cuts.{cut_at_root}
+use Rattle.bz_base.specs.Names.{is_canonical_byte, is_label_byte, is_package}
+use Rattle.bz_base.specs.PlainLabels.{is_label, label_of, rooted_label, target_label}
 use Rattle.bz_base.specs.PlainTexts.{json_of, json_of_pair, label_text, tagged}
-use Rattle.bz_base.specs.PlainReading.{added, all_good, deepest, depth_step, depth_pair_step, each_after, good_step, good_pair_step, integer_of, has_64_bits, is_good, is_good_pair, label_plain, items_plain, pairs_plain, pair_depth, pair_of, paired, plain_depth, plain_layer, plain_of, plain_within, items_within, pairs_within}
+use Rattle.bz_base.specs.PlainReading.{added, all_good, deepest, each_after, integer_of, has_64_bits, is_good, is_good_pair, label_plain, items_plain, pairs_plain, pair_depth, pair_of, paired, plain_depth, plain_layer, plain_of, plain_within, items_within, pairs_within}
 use Rattle.bz_base.specs.declared.labels.Label.{Label}
-use Rattle.bz_base.specs.declared.plain_labels.NotPlain.{NotPlain}
 use Rattle.bz_base.specs.declared.plain_values.Plain as plain
 use Rattle.bz_base.specs.declared.plain_values.Plain.{Plain, the_lemmas, out-Plain, roll-Plain}
 use Rattle.bz_base.specs.declared.plain_values.Plain.TheVariants.{rolls-None, rolls-Flag, rolls-Int, rolls-Text, rolls-Label, rolls-Items, rolls-Pairs}
-use Rattle.bz_base.specs.declared.plain_values.Plain.TheOpen.{Plain-F, PlainPair-F}
+use Rattle.bz_base.specs.declared.plain_values.Plain.TheOpen.{Plain-F}
 use Rattle.bz_base.specs.declared.plain_values.PlainPair.{PlainPair}
 use Rattle.std.proofs.lemmas.List.{append_assoc}
 use Rattle.bz_base.proofs.CutLists.{Lacks, cut-at}

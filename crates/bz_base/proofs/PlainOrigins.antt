@@ -1,9 +1,9 @@
 -- What is read was written.
-use Rattle.std.proofs.Common.{◌≡◌, ◌≢◌, ◌↔◌, ℕ, zero, suc, ◌≤◌, ◌^◌, max, ℤ, pos, negsuc, codes, nat_lt, IsTrue, IfOk, Bool, true, false, ◌&&◌, List, [], ◌∷◌, ◌++◌, map, Result, Ok, Err, Option, Some, None, option_map, option_and_then, bytes_eq, refl, ap, ◌∙◌, sym, subst, arith, append-nil}
+use Rattle.std.proofs.Common.{◌≡◌, ◌≢◌, ◌↔◌, ℕ, zero, suc, ◌≤◌, ◌^◌, pos, negsuc, codes, nat_lt, IsTrue, IfOk, true, List, [], ◌∷◌, ◌++◌, map, Result, Ok, Err, Option, Some, None, option_map, option_and_then, bytes_eq, refl, ap, ◌∙◌, sym, subst, arith, append-nil}
 use Rattle.std.proofs.lemmas.Bool.{and_from, and_parts, cond_both}
 use Rattle.std.proofs.lemmas.List.{append_assoc}
 use Rattle.std.proofs.lemmas.Slice.Eq.{bytes_eq-Decides}
-use Rattle.serde_json.specs.Data.{Data, Num, unsigned, negative, float, Items, no_items, item, Members, no_members, member, null, boolean, number, string, array, object}
+use Rattle.serde_json.specs.Data.{Data, Num, unsigned, negative, float, Items, no_items, item, no_members, member, null, boolean, number, string, array, object}
 use Rattle.serde_json.specs.Find.{as_array, as_str}
 use Rattle.serde_json.specs.View.{items_of}
 use Rattle.bz_base.specs.Cuts.{behind, cut, cut_at_root}
