@@ -1,1 +1,6 @@
+pub mod CutLists
+pub mod PlainLaws
+pub mod PlainLayers
+pub mod PlainOrigins
+pub mod SegmentCuts
 pub mod Segments

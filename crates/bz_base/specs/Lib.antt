@@ -1,9 +1,12 @@
 pub mod Answers
 pub mod Counts
+pub mod Cuts
 pub mod Digests
 pub mod Graphs
 pub mod Labels
 pub mod Names
 pub mod Paths
+pub mod PlainLabels
+pub mod PlainReading
 pub mod PlainTexts
 pub mod Refusals

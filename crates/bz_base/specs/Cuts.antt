@@ -1,0 +1,17 @@
+-- Where a text is cut.
+use Rattle.std.specs.Prelude.{ℕ, ◌==◌, List, [], ◌∷◌, Option, None, Some, option_map, option_and_then, if◌then◌else◌}
+
+-- what stands before the first mark, and what stands behind it
+abbrev pub cut : ℕ → List ℕ → Option (List ℕ × List ℕ)
+cut mark [] = None
+cut mark (b ∷ bs) = if b == mark then Some ([], bs) else option_map (λ parts. (b ∷ parts.0, parts.1)) (cut mark bs)
+
+-- what stands behind the mark with which the text begins
+abbrev pub behind : ℕ → List ℕ → Option (List ℕ)
+behind mark [] = None
+behind mark (b ∷ bs) = if b == mark then Some bs else None
+
+-- what stands before the first slash and behind the second, where the two stand together
+abbrev pub cut_at_root : List ℕ → Option (List ℕ × List ℕ)
+cut_at_root text =
+    option_and_then (λ parts. option_map (λ target. (parts.0, target)) (behind 47 parts.1)) (cut 47 text)
