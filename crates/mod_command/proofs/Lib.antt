@@ -5,5 +5,6 @@ pub mod LiteralMarks
 pub mod LiteralOrders
 pub mod LiteralPieces
 pub mod LiteralTexts
+pub mod NameEnds
 pub mod Pieces
 pub mod RootPaths

@@ -5,11 +5,12 @@ use Rattle.std.proofs.Math.Dec.{eqb-suc-zero}
 use Rattle.std.proofs.lemmas.Bool.{cases_Bool}
 use Rattle.std.proofs.lemmas.List.Splits.{join_with_byte-slice_split}
 use Rattle.std.proofs.lemmas.Slice.Eq.{bytes_eq-Decides}
+use Rattle.bz_base.specs.Names.{is_module_name}
 use Rattle.bz_base.specs.declared.module_key.Key.{Key}
 use Rattle.bz_version.specs.Scan.{version_of}
 use Rattle.bz_version.specs.declared.versions.BadVersion.{BadVersion}
 use Rattle.mod_command.specs.LiteralGrammar.{IsDirective, IsLine, quoted}
-use Rattle.mod_command.specs.LiteralLines.{is_module_name, key_of, key_with, line_of, line_of_pieces, line_with, pieces_of}
+use Rattle.mod_command.specs.LiteralLines.{key_of, key_with, line_of, line_of_pieces, line_with, pieces_of}
 use Rattle.mod_command.specs.declared.literal_line.LiteralLine.{LiteralLine}
 use Rattle.mod_command.specs.declared.literal_line.LiteralLine.TheVariants.{Empty, Module, Dep}
 use Rattle.mod_command.specs.declared.literal_line.NotLiteral.{NotLiteral}

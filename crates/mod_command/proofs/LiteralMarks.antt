@@ -8,7 +8,8 @@ use Rattle.bz_version.specs.Texts.{before, plus}
 use Rattle.bz_version.specs.declared.scanner.Place.{Place}
 use Rattle.bz_version.specs.declared.scanner.Place.TheVariants.{Start, ReleaseFirst, Release, PrereleaseFirst, Prerelease, BuildFirst, Build}
 use Rattle.bz_version.specs.declared.versions.BadVersion.{BadVersion}
-use Rattle.mod_command.specs.LiteralLines.{is_module_name, is_name_byte}
+use Rattle.bz_base.specs.Names.{is_module_byte, is_module_name}
+use Rattle.std.specs.Char.{is_ascii_lowercase}
 
 -- the mark stands nowhere in the text
 abbrev pub Lacks : ℕ → List ℕ → Type 0
@@ -45,8 +46,10 @@ Lacks-from_list_all p mark (b ∷ rest) fails all =
     (differs p mark b fails parts.0, Lacks-from_list_all p mark rest fails parts.1)
 
 -- a module name has name bytes only
-pub Lacks-name : (mark : ℕ) (name : List ℕ) → is_name_byte mark ≡ false → is_module_name name ≡ true → Lacks mark name
-Lacks-name mark name fails named = Lacks-from_list_all is_name_byte mark name fails (and_parts (list_all is_name_byte name) _ (and_parts _ _ named).0).0
+pub Lacks-name : (mark : ℕ) (name : List ℕ) → is_module_byte mark ≡ false → is_module_name name ≡ true → Lacks mark name
+Lacks-name mark [] fails named = tt
+Lacks-name mark (b ∷ rest) fails named =
+    Lacks-from_list_all is_module_byte mark (b ∷ rest) fails (and_parts (is_ascii_lowercase b) _ (and_parts _ _ named).0).1
 
 -- no version goes on with the mark
 abbrev pub StopsVersions : ℕ → Type 0

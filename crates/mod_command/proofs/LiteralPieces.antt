@@ -2,8 +2,7 @@
 use Rattle.std.proofs.Common.{◌≡◌, ℕ, List, ◌∷◌, ◌==◌, refl}
 use Rattle.mod_command.proofs.Cuts.{split-cons}
 use Rattle.mod_command.specs.LiteralLines.{line_of_pieces, not_literal, pieces_of}
-use Rattle.mod_command.specs.declared.literal_line.LiteralLine.{LiteralLine}
-use Rattle.std.specs.Prelude.{Result, Err}
+use Rattle.std.specs.Prelude.{Err}
 
 -- behind a fifth quote no directive is left
 pub line_of_pieces-six : (a b c d e rest : List ℕ) → line_of_pieces (a ∷ b ∷ c ∷ d ∷ e ∷ pieces_of rest) ≡ Err not_literal

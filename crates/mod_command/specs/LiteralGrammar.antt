@@ -1,9 +1,9 @@
 -- The grammar of module files in the literal form, as a relation of bytes and lines: Bazel, "MODULE.bazel files", functions `module` and `bazel_dep`.
 use Rattle.std.specs.Prelude.{◌≡◌, ◌≢◌, ℕ, ◌<◌, true, List, [], ◌∷◌, ◌++◌, Ok, codes}
 use Rattle.std.specs.List.{AllByRecursion}
+use Rattle.bz_base.specs.Names.{is_module_name}
 use Rattle.bz_base.specs.declared.module_key.Key.{Key}
 use Rattle.bz_version.specs.Scan.{version_of}
-use Rattle.mod_command.specs.LiteralLines.{is_module_name}
 use Rattle.mod_command.specs.declared.literal_line.LiteralLine.{LiteralLine}
 use Rattle.mod_command.specs.declared.literal_line.LiteralLine.TheVariants.{Empty, Module, Dep}
 

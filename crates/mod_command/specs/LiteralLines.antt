@@ -1,21 +1,13 @@
 -- The lines of a module file in the literal form: Bazel, "MODULE.bazel files", functions `module` and `bazel_dep`, cut down to one way of writing them.
-use Rattle.std.specs.Prelude.{◌≡◌, ℕ, ◌-◌, ◌==◌, ◌&&◌, ◌||◌, Bool, true, if◌then◌else◌, List, [], ◌∷◌, ◌++◌, length, slice_index, Result, Ok, Err, codes, bytes_eq}
-use Rattle.std.specs.Char.{is_ascii_digit, is_ascii_lowercase}
-use Rattle.std.specs.List.{list_all, slice_split}
+use Rattle.std.specs.Prelude.{ℕ, ◌==◌, ◌&&◌, if◌then◌else◌, List, [], ◌∷◌, length, Result, Ok, Err, codes, bytes_eq}
+use Rattle.std.specs.List.{slice_split}
+use Rattle.bz_base.specs.Names.{is_module_name}
 use Rattle.bz_base.specs.declared.module_key.Key.{Key}
 use Rattle.bz_version.specs.Scan.{version_of}
 use Rattle.bz_version.specs.declared.versions.BadVersion.{BadVersion}
 use Rattle.mod_command.specs.declared.literal_line.LiteralLine.{LiteralLine}
 use Rattle.mod_command.specs.declared.literal_line.LiteralLine.TheVariants.{Empty, Module, Dep}
 use Rattle.mod_command.specs.declared.literal_line.NotLiteral.{NotLiteral}
-
-abbrev pub is_name_byte : ℕ → Bool
-is_name_byte b = is_ascii_lowercase b || is_ascii_digit b || b == 46 || b == 45 || b == 95
-
--- small letters, digits, `.`, `-` and `_`, the first one a letter and the last one a letter or a digit
-abbrev pub is_module_name : List ℕ → Bool
-is_module_name name =
-    list_all is_name_byte name && is_ascii_lowercase (slice_index name 0) && (is_ascii_lowercase (slice_index name (length name - 1)) || is_ascii_digit (slice_index name (length name - 1)))
 
 abbrev pub not_literal : NotLiteral
 not_literal = record {}

@@ -1,9 +1,10 @@
 //! One line of a module file in the literal form.
-ghost use Rattle.std.specs.Prelude.{◌≡◌, [], ◌∷◌, IfNone, IfSome};
+ghost use Rattle.std.specs.Prelude.{◌≡◌, ◌||◌, [], ◌∷◌, IfNone, IfSome};
 ghost use Rattle.std.specs.Char.{is_ascii_digit, is_ascii_lowercase};
 ghost use Rattle.std.specs.List.{list_all};
 ghost use Rattle.bz_base.specs.Answers.{Gives};
-ghost use Rattle.mod_command.specs.LiteralLines.{is_module_name, is_name_byte, key_of, line_of, line_of_pieces, line_with, pieces_of};
+ghost use Rattle.bz_base.specs.Names.{begins_and_goes_on, ends, is_joint, is_module_byte, is_module_name};
+ghost use Rattle.mod_command.specs.LiteralLines.{key_of, line_of, line_of_pieces, line_with, pieces_of};
 
 use bz_base::{Key, May, Miss, Txt};
 use bz_version::Version;
@@ -109,24 +110,49 @@ fn names_module(text: &str) -> bool
     ensures { result ≡ is_module_name text.now }
 {
     let bytes = text.as_bytes();
-    match (bytes.first(), bytes.last()) {
-        (Some(first), Some(last)) => {
-            has_name_bytes(bytes) && is_letter(*first) && (is_letter(*last) || is_digit(*last))
-        }
-        _ => false,
+    begins_as_name(bytes) && ends_as_name(bytes)
+}
+
+fn begins_as_name(bytes: &[u8]) -> bool
+    ensures { result ≡ begins_and_goes_on is_ascii_lowercase is_module_byte bytes.now }
+{
+    match bytes {
+        [] => false,
+        [first, ..] => is_letter(*first) && has_name_bytes(bytes),
     }
 }
 
+fn ends_as_name(bytes: &[u8]) -> bool
+    ensures { result ≡ ends (λ b. is_ascii_lowercase b || is_ascii_digit b) bytes.now }
+{
+    match bytes.last() {
+        None => false,
+        Some(last) => may_end_name(*last),
+    }
+}
+
+fn may_end_name(b: u8) -> bool
+    ensures { result ≡ (is_ascii_lowercase b || is_ascii_digit b) }
+{
+    is_letter(b) || is_digit(b)
+}
+
 fn has_name_bytes(bytes: &[u8]) -> bool
-    ensures { result ≡ list_all is_name_byte bytes.now }
+    ensures { result ≡ list_all is_module_byte bytes.now }
 {
     bytes.iter().all(|b| may_stand_in_name(*b))
 }
 
 fn may_stand_in_name(b: u8) -> bool
-    ensures { result ≡ is_name_byte b }
+    ensures { result ≡ is_module_byte b }
 {
-    is_letter(b) || is_digit(b) || b == b'.' || b == b'-' || b == b'_'
+    is_letter(b) || is_digit(b) || is_joint_byte(b)
+}
+
+fn is_joint_byte(b: u8) -> bool
+    ensures { result ≡ is_joint b }
+{
+    b == b'_' || b == b'.' || b == b'-'
 }
 
 fn is_letter(b: u8) -> bool

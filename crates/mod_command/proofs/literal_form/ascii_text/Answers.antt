@@ -1,4 +1,4 @@
-use Rattle.std.proofs.Common.{sym, ◌∙◌}
+use Rattle.std.proofs.Common.{sym}
 use Rattle.std.proofs.lemmas.Str.{IsUtf8-from_ascii}
 use Rattle.mod_command.proofs.LiteralTexts.{below-all}
 use Rattle.mod_command.proofs.literal_form.ascii_text.Goals as goal

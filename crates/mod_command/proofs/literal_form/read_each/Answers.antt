@@ -1,7 +1,6 @@
-use Rattle.std.proofs.Common.{◌≡◌, [], Ok, Err, ap, sym, ◌∙◌, subst, rules}
+use Rattle.std.proofs.Common.{Err, ap, sym, ◌∙◌, subst, rules}
 use Rattle.bz_base.specs.Answers.{Gives}
-use Rattle.mod_command.specs.LiteralForms.{lines_from, texts_of, with_line}
-use Rattle.mod_command.specs.LiteralLines.{line_of}
+use Rattle.mod_command.specs.LiteralForms.{lines_from, texts_of}
 use Rattle.mod_command.proofs.LiteralTexts.{Gives-missed, lines_from_next}
 use Rattle.mod_command.proofs.literal_form.read_each.Goals as goal
 
