@@ -1,11 +1,17 @@
 pub mod Commands
+pub mod Discovery
+pub mod GraphTexts
 pub mod Graphs
+pub mod Keys
 pub mod LiteralForms
 pub mod LiteralGrammar
 pub mod LiteralLines
+pub mod ModuleFiles
 pub mod Printing
 pub mod RootFiles
 pub mod Runs
+pub mod Selection
 pub mod Statuses
 pub mod Stopping
+pub mod Walks
 pub mod Written

@@ -1,11 +1,13 @@
 //! The commands of `modtool`, and the one call that a program makes.
 #![tactic(auto)]
 
+mod asks;
 mod command;
 mod graph;
 pub mod laws;
 mod literal_form;
 mod literal_line;
+mod module_file;
 mod printing;
 mod report;
 mod root_file;

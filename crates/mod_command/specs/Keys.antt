@@ -1,0 +1,16 @@
+-- Module keys, and how they and the root are printed.
+use Rattle.std.specs.Prelude.{ℕ, Bool, if◌then◌else◌, ◌==◌, ◌&&◌, List, [], ◌++◌, length, codes, bytes_eq}
+use Rattle.bz_base.specs.declared.module_graph.GraphNode.{GraphNode}
+use Rattle.bz_base.specs.declared.module_key.Key.{Key}
+
+-- one name and one version
+abbrev pub same_key : Key → Key → Bool
+same_key one other = bytes_eq one.name other.name && bytes_eq one.version other.version
+
+-- `NAME@VERSION`, with `_` for the empty version
+abbrev pub key_text : Key → List ℕ
+key_text key = key.name ++ codes "@" ++ (if length key.version == 0 then codes "_" else key.version)
+
+-- a module's key; the root is printed as `<root>`
+abbrev pub node_text : GraphNode → List ℕ
+node_text node = if node.root then codes "<root>" else key_text node.key
