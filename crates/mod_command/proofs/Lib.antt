@@ -8,3 +8,7 @@ pub mod LiteralTexts
 pub mod NameEnds
 pub mod Pieces
 pub mod RootPaths
+pub mod WalkSteps
+pub mod KeySets
+pub mod Discoveries
+pub mod Stopping

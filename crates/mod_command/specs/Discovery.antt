@@ -67,6 +67,10 @@ found_at look (Err bad) = Absent
 abbrev pub found_by : Files → List ℕ → Found
 found_by look text = found_at look (joined [] text)
 
+-- what stands where the default registry has a module's file
+unfoldable pub found_for : Files → Key → Found
+found_for look key = found_by look (registry_text key)
+
 -- a registry's file declares its key's name and version
 abbrev pub declares : Key → ModuleDecl → Bool
 declares key decl = bytes_eq decl.name key.name && bytes_eq decl.version key.version
@@ -96,7 +100,7 @@ node_of root ask found = registry_node root ask (registry_decl ask found)
 
 abbrev pub discovery : Files → Key → Walk Ask GraphNode Refusal
 discovery look root =
-    record { rules = discovery_rules; read = λ ask. node_of root ask (found_by look (registry_text ask.key)); asks = asks_of root }
+    record { rules = discovery_rules; read = λ ask. node_of root ask (found_for look ask.key); asks = asks_of root }
 
 abbrev pub root_key : ModuleDecl → Key
 root_key decl = record { name = decl.name; version = decl.version }

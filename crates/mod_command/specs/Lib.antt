@@ -2,6 +2,7 @@ pub mod Commands
 pub mod Discovery
 pub mod GraphTexts
 pub mod Graphs
+pub mod KeySets
 pub mod Keys
 pub mod LiteralForms
 pub mod LiteralGrammar

@@ -1,12 +1,16 @@
-//! The text of `graph`.
-ghost use Rattle.std.specs.Prelude.{◌≡◌, ◌≤◌, Ok};
+//! The text of `graph`: the root file is read, what it needs is discovered and selected, and the selected modules are written.
+ghost use Rattle.std.specs.Prelude.{◌≡◌, ◌≤◌};
 ghost use Rattle.mod_command.specs.Graphs.{graph_text_of};
 ghost use Rattle.mod_command.specs.Stopping.{GivesOver};
 
+use crate::discovery::discover;
+use crate::graph_text::write_graph;
+use crate::reading::read;
 use crate::root_file::{read_root, root_path};
+use crate::selection::select;
 use crate::stops::Stop;
-use bz_base::{TreePath, Txt};
-use bz_tree::{Found, OutsideFault, Tree};
+use bz_base::Txt;
+use bz_tree::Tree;
 use std::alloc::Global;
 
 /// The text of `graph` over the tree's files.
@@ -17,19 +21,8 @@ pub(crate) fn graph_text<T: Tree>(alloc: Global, tree: &mut T) -> Result<Txt, St
 {
     let path = root_path(alloc)?;
     let found = read(alloc, tree, path)?;
-    read_root(alloc, &found)?;
-    Ok(Txt::of(alloc, "<root>\n")?)
-}
-
-/// What stands at a path. A read that fails gives the path back.
-fn read<T: Tree>(alloc: Global, tree: &mut T, path: TreePath) -> Result<Found, Stop>
-    ensures found { GivesOver (λ look. Ok (look path)) (T.files tree.old) (T.faults tree.old) (T.faults tree.new) (T.failed tree.new) result }
-    ensures files_kept { T.files tree.new ≡ T.files tree.old }
-    ensures count_never_falls { T.faults tree.old ≤ T.faults tree.new }
-{
-    match tree.read(alloc, &path) {
-        Ok(found) => Ok(found),
-        Err(OutsideFault::Failed) => Err(Stop::ReadFault(path)),
-        Err(OutsideFault::OutOfMemory) => Err(Stop::OutOfMemory),
-    }
+    let root = read_root(alloc, &found)?;
+    let graph = discover(alloc, root, tree)?;
+    let selected = select(alloc, &graph)?;
+    Ok(write_graph(alloc, &graph, &selected)?)
 }

@@ -3,12 +3,16 @@
 
 mod asks;
 mod command;
+mod discovery;
 mod graph;
+mod keys;
+mod known;
 pub mod laws;
 mod literal_form;
 mod literal_line;
 mod module_file;
 mod printing;
+mod reading;
 mod report;
 mod root_file;
 mod status;

@@ -4,6 +4,7 @@ ghost use Rattle.mod_command.specs.Stopping.{stop_of_miss};
 ghost use Rattle.mod_command.specs.declared.stops.Stop.TheVariants.{OutOfMemory};
 
 use bz_base::{Miss, OutOfMemory, Refusal, TreePath};
+use std::alloc::AllocFailed;
 
 /// What comes in place of a command's text.
 #[derive(Debug, Drop)]
@@ -11,6 +12,16 @@ pub(crate) enum Stop {
     Refused(Refusal),
     ReadFault(TreePath),
     OutOfMemory,
+}
+
+/// The stop of a part that gave nothing.
+pub(crate) fn stop_of(miss: Miss<Refusal>) -> Stop
+    ensures { result ≡ stop_of_miss miss }
+{
+    match miss {
+        Miss::OutOfMemory => Stop::OutOfMemory,
+        Miss::Because(refusal) => Stop::Refused(refusal),
+    }
 }
 
 impl From<OutOfMemory> for Stop {
@@ -21,13 +32,18 @@ impl From<OutOfMemory> for Stop {
     }
 }
 
+impl<T: Drop> From<AllocFailed<T>> for Stop {
+    ghost from_gives = { λ _ stop. stop ≡ OutOfMemory };
+
+    fn from(_error: AllocFailed<T>) -> Stop {
+        Stop::OutOfMemory
+    }
+}
+
 impl From<Miss<Refusal>> for Stop {
     ghost from_gives = { λ miss stop. stop ≡ stop_of_miss miss };
 
     fn from(miss: Miss<Refusal>) -> Stop {
-        match miss {
-            Miss::OutOfMemory => Stop::OutOfMemory,
-            Miss::Because(refusal) => Stop::Refused(refusal),
-        }
+        stop_of(miss)
     }
 }
