@@ -90,6 +90,13 @@ impl Version {
     }
 }
 
+/// The precedence of the versions with these texts, which are without BUILD.
+pub fn order_texts(first: &str, second: &str) -> Ordering
+    ensures { result ≡ precedence first.now second.now }
+{
+    compare_versions(first, second)
+}
+
 #[cfg(test)]
 mod tests {
     use super::*;

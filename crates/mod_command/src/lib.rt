@@ -4,6 +4,8 @@
 mod asks;
 mod command;
 mod graph;
+mod graph_text;
+mod keys;
 pub mod laws;
 mod literal_form;
 mod literal_line;
