@@ -1,4 +1,7 @@
+pub mod ChoiceTables
+pub mod Choices
 pub mod Cuts
+pub mod FirstPlaces
 pub mod LiteralDirectives
 pub mod LiteralFiles
 pub mod LiteralMarks
@@ -8,3 +11,5 @@ pub mod LiteralTexts
 pub mod NameEnds
 pub mod Pieces
 pub mod RootPaths
+pub mod SelectionWalks
+pub mod WalkSteps

@@ -13,6 +13,7 @@ mod module_file;
 mod printing;
 mod report;
 mod root_file;
+mod selection;
 mod status;
 mod stops;
 mod texts;

@@ -1,0 +1,2 @@
+-- The walk over selected modules.
+use Rattle.std.proofs.Common.{◌≡◌, refl}

@@ -1,0 +1,2 @@
+-- Walks by single nodes.
+use Rattle.std.proofs.Common.{◌≡◌, refl}
