@@ -29,6 +29,7 @@ is_superior-lifted x y z low high = by (precedence y.key.version x.key.version) 
   where
     below : precedence x.key.version z.key.version ≡ Less
     below = precedence_turned z.key.version x.key.version ∙ reverse_greater (precedence z.key.version x.key.version) high
+
     by : (o : Ordering) → precedence y.key.version x.key.version ≡ o → is_greater o ≡ false → is_superior z y ≡ true
     by Less o h = ap is_greater (precedence_turned y.key.version z.key.version ∙ ap ordering_reverse (precedence_chained y.key.version x.key.version z.key.version o below))
     by Equal o h = ap (λ version. is_greater (precedence z.key.version version)) (precedence_same y.key.version x.key.version o) ∙ high
@@ -48,21 +49,24 @@ listed-insert_entry (e ∷ es) k place name = by (bytes_eq (string_bytes k) (str
   where
     same : bytes_eq (string_bytes k) (string_bytes e.0) ≡ true → bytes_eq name (string_bytes k) ≡ bytes_eq name (string_bytes e.0)
     same h = ap (bytes_eq name) ((bytes_eq-Decides (string_bytes k) (string_bytes e.0)).0 h)
+
     twice : (b : Bool) → (if b then Some place else listed es name) ≡ (if b then Some place else if b then Some e.1 else listed es name)
     twice true = refl
     twice false = refl
+
     apart : bytes_eq (string_bytes k) (string_bytes e.0) ≡ false → (b : Bool) → bytes_eq name (string_bytes e.0) ≡ b → (d : Bool) → bytes_eq name (string_bytes k) ≡ d
         → listed (insert_entry string_eq es k place) name ≡ (if d then Some place else listed es name)
         → (if b then Some e.1 else listed (insert_entry string_eq es k place) name) ≡ (if d then Some place else if b then Some e.1 else listed es name)
     apart h true b true d further =
-      let one : name ≡ string_bytes e.0 = (bytes_eq-Decides name (string_bytes e.0)).0 b in
-      let other : name ≡ string_bytes k = (bytes_eq-Decides name (string_bytes k)).0 d in
-      let both : string_bytes k ≡ string_bytes e.0 = sym other ∙ one in
-      let yes : bytes_eq (string_bytes k) (string_bytes e.0) ≡ true = (bytes_eq-Decides (string_bytes k) (string_bytes e.0)).1 both in
-      absurd (cc)
+        let one : name ≡ string_bytes e.0 = (bytes_eq-Decides name (string_bytes e.0)).0 b in
+        let other : name ≡ string_bytes k = (bytes_eq-Decides name (string_bytes k)).0 d in
+        let both : string_bytes k ≡ string_bytes e.0 = sym other ∙ one in
+        let yes : bytes_eq (string_bytes k) (string_bytes e.0) ≡ true = (bytes_eq-Decides (string_bytes k) (string_bytes e.0)).1 both in
+        absurd (cc)
     apart h true b false d further = refl
     apart h false b true d further = further
     apart h false b false d further = further
+
     by : (t : Bool) → bytes_eq (string_bytes k) (string_bytes e.0) ≡ t
         → listed (insert_entry string_eq es k place) name ≡ (if bytes_eq name (string_bytes k) then Some place else listed es name)
         → listed (if t then (e.0, place) ∷ es else e ∷ insert_entry string_eq es k place) name ≡ (if bytes_eq name (string_bytes k) then Some place else listed (e ∷ es) name)
@@ -80,9 +84,9 @@ HasChoices-kept nodes node entries has kept name = has name ∙ sym (choice-grow
     by : (m : Bool) → is_member name node ≡ m → (if m && not (is_kept nodes node (choice name nodes)) then Some (length nodes) else choice name nodes) ≡ choice name nodes
     by false m = refl
     by true m =
-      let same : name ≡ node.key.name = (bytes_eq-Decides name node.key.name).0 m in
-      let stays : is_kept nodes node (choice name nodes) ≡ true = ap (is_kept nodes node) (sym (has name) ∙ ap (listed entries) same) ∙ kept in
-      ap (λ s. if not s then Some (length nodes) else choice name nodes) stays
+        let same : name ≡ node.key.name = (bytes_eq-Decides name node.key.name).0 m in
+        let stays : is_kept nodes node (choice name nodes) ≡ true = ap (is_kept nodes node) (sym (has name) ∙ ap (listed entries) same) ∙ kept in
+        ap (λ s. if not s then Some (length nodes) else choice name nodes) stays
 
 -- a node that becomes the choice of its group
 pub HasChoices-put : (nodes : List GraphNode) (node : GraphNode) (entries : List (String Global × ℕ)) (k : String Global) → HasChoices nodes entries
@@ -93,6 +97,6 @@ HasChoices-put nodes node entries k has left bytes name =
     by : (m : Bool) → is_member name node ≡ m → (if m && not (is_kept nodes node (choice name nodes)) then Some (length nodes) else choice name nodes) ≡ (if m then Some (length nodes) else listed entries name)
     by false m = sym (has name)
     by true m =
-      let same : name ≡ node.key.name = (bytes_eq-Decides name node.key.name).0 m in
-      let stays : is_kept nodes node (choice name nodes) ≡ false = ap (is_kept nodes node) (sym (has name) ∙ ap (listed entries) same) ∙ left in
-      ap (λ s. if not s then Some (length nodes) else choice name nodes) stays
+        let same : name ≡ node.key.name = (bytes_eq-Decides name node.key.name).0 m in
+        let stays : is_kept nodes node (choice name nodes) ≡ false = ap (is_kept nodes node) (sym (has name) ∙ ap (listed entries) same) ∙ left in
+        ap (λ s. if not s then Some (length nodes) else choice name nodes) stays

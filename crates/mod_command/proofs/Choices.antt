@@ -135,8 +135,10 @@ module _ {X : Type 0} (member : X → Bool) (above : X → X → Bool) where
     where
       longer : position_from (is_first (xs ++ last ∷ [])) 0 xs ≡ place xs
       longer = position_from-alike _ _ 0 xs (λ x. is_first-other xs last x out)
+
       not_last : is_first (xs ++ last ∷ []) last ≡ false
       not_last = ap (λ m. m && is_top (xs ++ last ∷ []) last) out
+
       by : (chosen : Option ℕ) → place xs ≡ chosen → place (xs ++ last ∷ []) ≡ place xs
       by None e = position_from-last _ 0 xs last (longer ∙ e) ∙ ap (λ b. if b then Some (0 + length xs) else None) not_last ∙ sym e
       by (Some i) e = position_from-front _ 0 xs (last ∷ []) i (longer ∙ e) ∙ sym e
@@ -150,20 +152,20 @@ module _ {X : Type 0} (member : X → Bool) (above : X → X → Bool) where
   -- a member beside no others is the choice
   grown_alone : Heights X above → (xs : List X) (last : X) → member last ≡ true → has_none xs ≡ true → place (xs ++ last ∷ []) ≡ Some (length xs)
   grown_alone heights xs last there none =
-    grown_last xs last (none_first _ (λ x out. ap (λ m. m && is_top (xs ++ last ∷ []) x) out) 0 xs none) (last_first heights xs last there (none_top last xs none))
+      grown_last xs last (none_first _ (λ x out. ap (λ m. m && is_top (xs ++ last ∷ []) x) out) 0 xs none) (last_first heights xs last there (none_top last xs none))
 
   -- a member above the choice is the next
   grown_above : Heights X above → (xs : List X) (last item : X) → member last ≡ true → is_first xs item ≡ true → above last item ≡ true → place (xs ++ last ∷ []) ≡ Some (length xs)
   grown_above heights xs last item there first high =
-    let top : is_top xs item ≡ true = second (member item) (is_top xs item) first in
-    grown_last xs last
+      let top : is_top xs item ≡ true = second (member item) (is_top xs item) first in
+      grown_last xs last
       (all_surpassed heights _ item last high (λ x out. ap (λ m. m && is_top (xs ++ last ∷ []) x) out) (λ x m a. is_first-surpassed xs last x there a) 0 xs top)
       (last_first heights xs last there (above_top heights item last high xs top))
 
   -- a member that isn't above the choice leaves it
   grown_below : (xs : List X) (last : X) (i : ℕ) → place xs ≡ Some i → (found : FoundAt (is_first xs) 0 xs i) → above last found.item ≡ false → place (xs ++ last ∷ []) ≡ Some i
   grown_below xs last i e found low =
-    position_from-front _ 0 xs (last ∷ []) i
+      position_from-front _ 0 xs (last ∷ []) i
       (position_from-narrower _ _ 0 xs found.item found.first (is_first-kept xs last found.item found.passes low) (is_first-fewer xs last) ∙ e)
 
   stays-none : (xs : List X) (last : X) → next_place xs last None ≡ (if member last then Some (length xs) else None)
@@ -175,8 +177,8 @@ module _ {X : Type 0} (member : X → Bool) (above : X → X → Bool) where
 
   stays-some : (xs : List X) (last : X) (i : ℕ) (found : FoundAt (is_first xs) 0 xs i) → stays xs last (Some i) ≡ not (above last found.item)
   stays-some xs last i found =
-    let same : i ≡ found.offset = omega (arith, found.at) in
-    ap (λ other. option_map_or (λ item. not (above last item)) other false) (ap (slice_get xs) same ∙ found.there)
+      let same : i ≡ found.offset = omega (arith, found.at) in
+      ap (λ other. option_map_or (λ item. not (above last item)) other false) (ap (slice_get xs) same ∙ found.there)
 
   -- one more member: it is the choice where the one so far doesn't stay
   grown_member : Heights X above → (xs : List X) (last : X) → member last ≡ true → HasChoice xs → place (xs ++ last ∷ []) ≡ next_place xs last (place xs)
@@ -184,9 +186,11 @@ module _ {X : Type 0} (member : X → Bool) (above : X → X → Bool) where
     where
       next : (placed : Option ℕ) (s : Bool) → stays xs last placed ≡ s → next_place xs last placed ≡ (if not s then Some (length xs) else placed)
       next placed s e = λ i. if there i && not (e i) then Some (length xs) else placed
+
       at : (i : ℕ) → place xs ≡ Some i → (found : FoundAt (is_first xs) 0 xs i) → (a : Bool) → above last found.item ≡ a → place (xs ++ last ∷ []) ≡ next_place xs last (Some i)
       at i e found true a = grown_above heights xs last found.item there found.passes a ∙ sym (next (Some i) false (stays-some xs last i found ∙ ap not a))
       at i e found false a = grown_below xs last i e found a ∙ sym (next (Some i) true (stays-some xs last i found ∙ ap not a))
+
       by : (placed : Option ℕ) → place xs ≡ placed → place (xs ++ last ∷ []) ≡ next_place xs last (place xs)
       by None e = grown_alone heights xs last there (chosen e) ∙ sym (ap (next_place xs last) e ∙ next None false refl)
       by (Some i) e = let found = position_from-item _ 0 xs i e in at i e found _ refl ∙ ap (next_place xs last) (sym e)

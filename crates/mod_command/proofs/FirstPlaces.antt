@@ -19,6 +19,7 @@ position_from-last test i (x ∷ xs) last none = by (test x) (position_from-last
   where
     next : (if test last then Some (i + 1 + length xs) else None) ≡ (if test last then Some (i + suc (length xs)) else None)
     next = let e : i + 1 + length xs ≡ i + suc (length xs) = omega arith in ap (λ n. if test last then Some n else None) e
+
     by : (t : Bool) → (position_from test (i + 1) xs ≡ None → position_from test (i + 1) (xs ++ last ∷ []) ≡ (if test last then Some (i + 1 + length xs) else None)) → (if t then Some i else position_from test (i + 1) xs) ≡ None → (if t then Some i else position_from test (i + 1) (xs ++ last ∷ [])) ≡ (if test last then Some (i + suc (length xs)) else None)
     by true further there = absurd (cc)
     by false further there = further there ∙ next
@@ -52,12 +53,12 @@ position_from-item {X} test i (x ∷ xs) place found = by (test x) refl (positio
   where
     by : (t : Bool) → test x ≡ t → (position_from test (i + 1) xs ≡ Some place → FoundAt test (i + 1) xs place) → (if t then Some i else position_from test (i + 1) xs) ≡ Some place → FoundAt test i (x ∷ xs) place
     by true t further there =
-      let same : i ≡ place = cc in
-      record { offset = 0; item = x; at = omega arith; there = refl; passes = t; first = ap (λ b. if b then Some x else find test xs) t }
+        let same : i ≡ place = cc in
+        record { offset = 0; item = x; at = omega arith; there = refl; passes = t; first = ap (λ b. if b then Some x else find test xs) t }
     by false t further there =
-      let rest : FoundAt test (i + 1) xs place = further there in
-      let at : place ≡ i + 1 + rest.offset = rest.at in
-      record { offset = suc rest.offset; item = rest.item; at = omega arith; there = rest.there; passes = rest.passes; first = ap (λ b. if b then Some x else find test xs) t ∙ rest.first }
+        let rest : FoundAt test (i + 1) xs place = further there in
+        let at : place ≡ i + 1 + rest.offset = rest.at in
+        record { offset = suc rest.offset; item = rest.item; at = omega arith; there = rest.there; passes = rest.passes; first = ap (λ b. if b then Some x else find test xs) t ∙ rest.first }
 
 -- a narrower test that passes the first item finds the same place
 pub position_from-narrower : {X : Type 0} (one other : X → Bool) (i : ℕ) (xs : List X) (item : X) → find other xs ≡ Some item → one item ≡ true → ((x : X) → one x ≡ true → other x ≡ true) → position_from one i xs ≡ position_from other i xs

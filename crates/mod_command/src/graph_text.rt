@@ -45,7 +45,13 @@ fn push_node_lines(
 {
     push_node(text, node)?;
     text.push_str("\n")?;
-    push_deps(text, nodes, modules, node.decl.deps.items(), chosen.deps.items())
+    push_deps(
+        text,
+        nodes,
+        modules,
+        node.decl.deps.items(),
+        chosen.deps.items(),
+    )
 }
 
 fn push_deps(
