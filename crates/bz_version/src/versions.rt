@@ -180,6 +180,13 @@ mod tests {
     }
 
     #[test]
+    fn texts_compare_as_their_versions(rt: HostRuntime) -> Result<(), Fail> {
+        assert!(rt; order_texts("1.9", "1.10").is_lt());
+        assert!(rt; order_texts("", "1").is_gt());
+        Ok(())
+    }
+
+    #[test]
     fn the_empty_text_is_the_empty_version(rt: HostRuntime) -> Result<(), Fail> {
         let alloc = rt.alloc();
         let empty = Version::parse(alloc, "")?;

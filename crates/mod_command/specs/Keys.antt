@@ -7,9 +7,13 @@ use Rattle.bz_base.specs.declared.module_key.Key.{Key}
 abbrev pub same_key : Key → Key → Bool
 same_key one other = bytes_eq one.name other.name && bytes_eq one.version other.version
 
--- `NAME@VERSION`, with `_` for the empty version
+-- a version, with `_` for the empty one
+abbrev pub version_text : List ℕ → List ℕ
+version_text version = if length version == 0 then codes "_" else version
+
+-- `NAME@VERSION`
 abbrev pub key_text : Key → List ℕ
-key_text key = key.name ++ codes "@" ++ (if length key.version == 0 then codes "_" else key.version)
+key_text key = key.name ++ codes "@" ++ version_text key.version
 
 -- a module's key; the root is printed as `<root>`
 abbrev pub node_text : GraphNode → List ℕ

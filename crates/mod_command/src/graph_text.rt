@@ -101,3 +101,80 @@ fn node_at<'a>(nodes: &'a [GraphNode], modules: &[Chosen], place: u64) -> Option
     let chosen = modules.get(place as usize)?;
     nodes.get(chosen.node as usize)
 }
+
+#[cfg(test)]
+mod tests {
+    use super::*;
+    use crate::selection::select;
+    use bz_base::{Key, ModuleDecl, Seq};
+    use std::test::Fail;
+
+    fn key(alloc: Global, name: &str, version: &str) -> Mem<Key> {
+        Ok(Key {
+            name: Txt::of(alloc, name)?,
+            version: Txt::of(alloc, version)?,
+        })
+    }
+
+    fn dep(alloc: Global, name: &str, version: &str) -> Mem<Dep> {
+        Ok(Dep {
+            name: Txt::of(alloc, name)?,
+            version: Txt::of(alloc, version)?,
+            apparent: Txt::of(alloc, name)?,
+            dev: false,
+            line: 1,
+        })
+    }
+
+    fn node(
+        alloc: Global,
+        root: bool,
+        name: &str,
+        version: &str,
+        wanted: &[(&str, &str)],
+    ) -> Mem<GraphNode> {
+        let mut deps = Vec::new(alloc);
+        let mut needs = Vec::new(alloc);
+        for (name, version) in wanted {
+            deps.push(dep(alloc, name, version)?)?;
+            needs.push(key(alloc, name, version)?)?;
+        }
+        Ok(GraphNode {
+            key: key(alloc, name, version)?,
+            root,
+            decl: ModuleDecl {
+                name: Txt::of(alloc, name)?,
+                version: Txt::of(alloc, version)?,
+                level: 0,
+                repo_name: Txt::of(alloc, name)?,
+                deps: Seq::of_vec(deps),
+                parts: Seq::new(alloc),
+                overrides: Seq::new(alloc),
+            },
+            needs: Seq::of_vec(needs),
+            registry: Txt::of(alloc, "")?,
+        })
+    }
+
+    #[test]
+    fn the_highest_version_is_printed_for_all_that_ask(rt: HostRuntime) -> Result<(), Fail> {
+        let alloc = rt.alloc();
+        let mut nodes = Vec::new(alloc);
+        nodes.push(node(alloc, true, "", "", &[("a", "1"), ("b", "1.9")])?)?;
+        nodes.push(node(alloc, false, "a", "1", &[("b", "1.10"), ("d", "")])?)?;
+        nodes.push(node(alloc, false, "b", "1.9", &[("c", "1")])?)?;
+        nodes.push(node(alloc, false, "b", "1.10", &[])?)?;
+        nodes.push(node(alloc, false, "d", "", &[])?)?;
+        nodes.push(node(alloc, false, "c", "1", &[])?)?;
+        let graph = Graph {
+            nodes: Seq::of_vec(nodes),
+        };
+        let selected = select(alloc, &graph)?;
+        let text = write_graph(alloc, &graph, &selected)?;
+        assert_eq!(rt;
+            text.as_str(),
+            "<root>\n  a -> a@1\n  b -> b@1.10\na@1\n  b -> b@1.10\n  d -> d@_\nb@1.10\nd@_\n"
+        );
+        Ok(())
+    }
+}

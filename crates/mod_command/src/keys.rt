@@ -1,30 +1,35 @@
-//! The texts of module keys.
-ghost use Rattle.std.specs.Prelude.{◌≡◌, ◌==◌, ◌++◌, if◌then◌else◌, OnOk, codes, length, string_bytes};
-ghost use Rattle.mod_command.specs.Keys.{key_text, node_text};
+//! How keys and modules are printed.
+ghost use Rattle.std.specs.Prelude.{◌≡◌, ◌++◌, OnOk, string_bytes};
+ghost use Rattle.mod_command.specs.Keys.{key_text, node_text, version_text};
 
 use bz_base::{GraphNode, Key, Mem};
 
-/// Writes a key behind a text.
+/// `NAME@VERSION`, with `_` for the empty version.
 pub(crate) fn push_key(text: &mut String, key: &Key) -> Mem<()>
     ensures { OnOk result (string_bytes text.new ≡ string_bytes text.old ++ key_text key.now) }
 {
     text.push_str(key.name.as_str())?;
     text.push_str("@")?;
-    Ok(text.push_str(printed_version(key.version.as_str()))?)
+    push_version(text, key.version.as_str())
 }
 
-fn printed_version(version: &str) -> &str
-    ensures { result.now ≡ if length version.now == 0 then codes "_" else version.now }
+fn push_version(text: &mut String, version: &str) -> Mem<()>
+    ensures { OnOk result (string_bytes text.new ≡ string_bytes text.old ++ version_text version.now) }
 {
-    if version.is_empty() { "_" } else { version }
+    if version.is_empty() {
+        Ok(text.push_str("_")?)
+    } else {
+        Ok(text.push_str(version)?)
+    }
 }
 
-/// Writes a module's key, or what stands for the root's, behind a text.
+/// A module's key; the root is printed as `<root>`.
 pub(crate) fn push_node(text: &mut String, node: &GraphNode) -> Mem<()>
     ensures { OnOk result (string_bytes text.new ≡ string_bytes text.old ++ node_text node.now) }
 {
     if node.root {
-        return Ok(text.push_str("<root>")?);
+        Ok(text.push_str("<root>")?)
+    } else {
+        push_key(text, &node.key)
     }
-    push_key(text, &node.key)
 }
