@@ -1,8 +1,7 @@
 -- The first of the highest members of a group, as the list of what it stands in grows.
-use Rattle.std.proofs.Common.{◌≡◌, ℕ, zero, suc, ◌+◌, Bool, true, false, ◌&&◌, not, List, [], ◌∷◌, ◌++◌, length, None, Some, Option, if◌then◌else◌, refl, ap, sym, ◌∙◌, inl, inr, arith, append_assoc, append-nil, subst}
-use Rattle.std.proofs.lemmas.Bool.{cases_Bool}
+use Rattle.std.proofs.Common.{◌≡◌, ℕ, ◌+◌, Bool, true, false, ◌&&◌, not, List, [], ◌∷◌, ◌++◌, length, None, Some, Option, if◌then◌else◌, refl, ap, sym, ◌∙◌, arith, append_assoc, append-nil, subst}
 use Rattle.std.proofs.lemmas.List.Folds.{list_all-append}
-use Rattle.std.specs.List.{find, list_all, position_from, slice_get}
+use Rattle.std.specs.List.{list_all, position_from, slice_get}
 use Rattle.std.specs.Option.{option_map_or}
 use Rattle.mod_command.proofs.FirstPlaces.{FoundAt, position_from-alike, position_from-front, position_from-item, position_from-last, position_from-narrower}
 

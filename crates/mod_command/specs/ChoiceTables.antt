@@ -8,7 +8,7 @@ use Rattle.mod_command.specs.Selection.{choice, is_superior}
 
 -- the place that stands beside a name
 abbrev pub listed : List (String Global × ℕ) → List ℕ → Option ℕ
-listed entries name = lookup (λ listed. bytes_eq name (string_bytes listed)) entries
+listed entries name = lookup (λ key. bytes_eq name (string_bytes key)) entries
 
 -- beside each name stands the place of its group's choice, and beside that of no group nothing
 abbrev pub HasChoices : List GraphNode → List (String Global × ℕ) → Type 0

@@ -1,15 +1,38 @@
 //! The selected modules of a graph. One pass over the nodes lists the choice of each group by its name; then the root's choices are followed in order, each new one once.
-ghost use Rattle.std.specs.Prelude.{◌≡◌, ◌+◌, ◌<◌, ◌++◌, ◌∷◌, [], IfOk, Ok, OnOk, filter_map, length, map, nat_eq, slice_get};
+ghost use Rattle.std.specs.Prelude.{◌≡◌, ◌<◌, ◌++◌, ◌∷◌, [], IfOk, Ok, OnOk, filter_map, length, map, nat_eq, slice_get};
 ghost use Rattle.std.specs.List.{position_from};
 ghost use Rattle.indexmap.specs.IndexSet.{insert_all};
 ghost use Rattle.bz_base.specs.Answers.{Gives};
 ghost use Rattle.mod_command.specs.ChoiceTables.{HasChoices, is_kept, listed};
-ghost use Rattle.mod_command.specs.Selection.{choice, chosen_at, chosen_of, is_superior, places_in, places_walked, selected_of, selected_of_nodes};
+ghost use Rattle.mod_command.specs.Selection.{chosen_at, chosen_of, is_superior, places_in, places_walked, selected_of, selected_of_nodes};
 
 use bz_base::{Chosen, Graph, GraphNode, Key, May, Mem, Refusal, Selected, Seq};
 use bz_version::order_texts;
 use indexmap::{IndexMap, IndexSet};
 use std::alloc::Global;
+
+/// The selected modules of a graph: what the root then needs, by the highest versions.
+pub(crate) fn select(alloc: Global, graph: &Graph) -> May<Selected, Refusal>
+    ensures { Gives (selected_of graph.now) result }
+{
+    Ok(select_nodes(alloc, graph.nodes.items())?)
+}
+
+fn select_nodes(alloc: Global, nodes: &[GraphNode]) -> Mem<Selected>
+    ensures { IfOk result (λ selected. selected_of_nodes nodes.now ≡ Ok selected) }
+{
+    if nodes.is_empty() {
+        return Ok(Selected {
+            modules: Seq::new(alloc),
+        });
+    }
+    let table = choices(alloc, nodes)?;
+    let places = places(alloc, nodes, &table)?;
+    let modules = modules(alloc, nodes, &table, &places)?;
+    Ok(Selected {
+        modules: Seq::of_vec(modules),
+    })
+}
 
 /// The place of each group's choice, by the group's name.
 fn choices(alloc: Global, nodes: &[GraphNode]) -> Mem<IndexMap<String, u64>>
@@ -65,33 +88,6 @@ fn listed(table: &IndexMap<String, u64>, name: &str) -> Option<u64>
     table.get(name).copied()
 }
 
-/// The choice of each of the needs, in order.
-fn chosen_needs(alloc: Global, table: &IndexMap<String, u64>, needs: &[Key]) -> Mem<Vec<u64>>
-    ensures { IfOk result (λ chosen. chosen.items ≡ filter_map (λ need. listed table.now.entries need.name) needs.now) }
-{
-    let chosen = needs
-        .iter()
-        .filter_map(|need| listed(table, need.name.as_str()))
-        .collect(alloc)?;
-    Ok(chosen)
-}
-
-/// The choice of each need of the node at a place.
-fn chosen_at(
-    alloc: Global,
-    nodes: &[GraphNode],
-    table: &IndexMap<String, u64>,
-    place: u64,
-) -> Mem<Vec<u64>>
-    requires { HasChoices nodes.now table.now.entries }
-    ensures { IfOk result (λ chosen. chosen.items ≡ chosen_at nodes.now place) }
-{
-    match nodes.get(place as usize) {
-        Some(node) => chosen_needs(alloc, table, node.needs.items()),
-        None => Ok(Vec::new(alloc)),
-    }
-}
-
 /// The places of the selected modules, in module order.
 fn places(alloc: Global, nodes: &[GraphNode], table: &IndexMap<String, u64>) -> Mem<IndexSet<u64>>
     requires some { 0 < length nodes.now }
@@ -125,22 +121,48 @@ fn add_each(places: &mut IndexSet<u64>, more: &[u64]) -> Mem<()>
     Ok(())
 }
 
-/// The places of the chosen among the selected modules.
-fn places_in(alloc: Global, places: &IndexSet<u64>, chosen: &[u64]) -> Mem<Vec<u64>>
-    ensures { IfOk result (λ deps. deps.items ≡ places_in places.now.keys chosen.now) }
+/// The choice of each need of the node at a place.
+fn chosen_at(
+    alloc: Global,
+    nodes: &[GraphNode],
+    table: &IndexMap<String, u64>,
+    place: u64,
+) -> Mem<Vec<u64>>
+    requires { HasChoices nodes.now table.now.entries }
+    ensures { IfOk result (λ chosen. chosen.items ≡ chosen_at nodes.now place) }
 {
-    let deps = chosen
-        .iter()
-        .filter_map(|place| index_of(places, *place))
-        .collect(alloc)?;
-    Ok(deps)
+    match nodes.get(place as usize) {
+        Some(node) => chosen_needs(alloc, table, node.needs.items()),
+        None => Ok(Vec::new(alloc)),
+    }
 }
 
-fn index_of(places: &IndexSet<u64>, place: u64) -> Option<u64>
-    ensures { result ≡ position_from (nat_eq place) 0 places.now.keys }
+/// The choice of each of the needs, in order.
+fn chosen_needs(alloc: Global, table: &IndexMap<String, u64>, needs: &[Key]) -> Mem<Vec<u64>>
+    ensures { IfOk result (λ chosen. chosen.items ≡ filter_map (λ need. listed table.now.entries need.name) needs.now) }
 {
-    let index = places.get_index_of(&place)?;
-    Some(index as u64)
+    let chosen = needs
+        .iter()
+        .filter_map(|need| listed(table, need.name.as_str()))
+        .collect(alloc)?;
+    Ok(chosen)
+}
+
+/// The selected modules with their dependencies.
+fn modules(
+    alloc: Global,
+    nodes: &[GraphNode],
+    table: &IndexMap<String, u64>,
+    places: &IndexSet<u64>,
+) -> Mem<Vec<Chosen>>
+    requires { HasChoices nodes.now table.now.entries }
+    ensures { IfOk result (λ modules. modules.items ≡ map (chosen_of nodes.now places.now.keys) places.now.keys) }
+{
+    let mut modules = Vec::new(alloc);
+    for place in places.as_slice() {
+        modules.push(chosen_of(alloc, nodes, table, places, *place)?)?;
+    }
+    Ok(modules)
 }
 
 fn chosen_of(
@@ -161,42 +183,20 @@ fn chosen_of(
     })
 }
 
-/// The selected modules with their dependencies.
-fn modules(
-    alloc: Global,
-    nodes: &[GraphNode],
-    table: &IndexMap<String, u64>,
-    places: &IndexSet<u64>,
-) -> Mem<Vec<Chosen>>
-    requires { HasChoices nodes.now table.now.entries }
-    ensures { IfOk result (λ modules. modules.items ≡ map (chosen_of nodes.now places.now.keys) places.now.keys) }
+/// The places of the chosen among the selected modules.
+fn places_in(alloc: Global, places: &IndexSet<u64>, chosen: &[u64]) -> Mem<Vec<u64>>
+    ensures { IfOk result (λ deps. deps.items ≡ places_in places.now.keys chosen.now) }
 {
-    let mut modules = Vec::new(alloc);
-    for place in places.as_slice() {
-        modules.push(chosen_of(alloc, nodes, table, places, *place)?)?;
-    }
-    Ok(modules)
+    let deps = chosen
+        .iter()
+        .filter_map(|place| index_of(places, *place))
+        .collect(alloc)?;
+    Ok(deps)
 }
 
-fn select_nodes(alloc: Global, nodes: &[GraphNode]) -> Mem<Selected>
-    ensures { IfOk result (λ selected. selected_of_nodes nodes.now ≡ Ok selected) }
+fn index_of(places: &IndexSet<u64>, place: u64) -> Option<u64>
+    ensures { result ≡ position_from (nat_eq place) 0 places.now.keys }
 {
-    if nodes.is_empty() {
-        return Ok(Selected {
-            modules: Seq::new(alloc),
-        });
-    }
-    let table = choices(alloc, nodes)?;
-    let places = places(alloc, nodes, &table)?;
-    let modules = modules(alloc, nodes, &table, &places)?;
-    Ok(Selected {
-        modules: Seq::of_vec(modules),
-    })
-}
-
-/// The selected modules of a graph: what the root then needs, by the highest versions.
-pub(crate) fn select(alloc: Global, graph: &Graph) -> May<Selected, Refusal>
-    ensures { Gives (selected_of graph.now) result }
-{
-    Ok(select_nodes(alloc, graph.nodes.items())?)
+    let index = places.get_index_of(&place)?;
+    Some(index as u64)
 }

@@ -1,7 +1,6 @@
 use Rattle.std.proofs.Common.{◌≡◌, ℕ, List, [], ◌∷◌, ◌++◌, inl, inr, zip, ap, sym, ◌∙◌, append-nil, refl}
 use Rattle.std.proofs.lemmas.List.{nil_from_length}
 use Rattle.std.specs.Prelude.{flat_map}
-use Rattle.mod_command.specs.GraphTexts.{dep_line_of}
 use Rattle.mod_command.proofs.graph_text.push_deps.Goals as goal
 
 zip-nil : {X Y : Type 0} (xs : List X) (ys : List Y) → ys ≡ [] → zip xs ys ≡ []

@@ -1,4 +1,4 @@
-use Rattle.std.proofs.Common.{◌≡◌, ◌++◌, ◌∷◌, [], ap, sym, ◌∙◌, subst}
+use Rattle.std.proofs.Common.{◌++◌, ◌∷◌, [], ap, sym, ◌∙◌, subst}
 use Rattle.mod_command.proofs.ChoiceTables.{HasChoices-kept, HasChoices-put}
 use Rattle.mod_command.specs.ChoiceTables.{HasChoices, is_kept, listed}
 use Rattle.mod_command.proofs.selection.choose.Goals as goal

@@ -1,4 +1,4 @@
-use Rattle.std.proofs.Common.{◌≡◌, ◌+◌, ◌<◌, [], ◌∷◌, length, None, Some, ap, sym, ◌∙◌, subst, arith, rules}
+use Rattle.std.proofs.Common.{◌≡◌, ◌+◌, ◌<◌, [], ◌∷◌, length, None, ap, sym, ◌∙◌, subst, arith, rules}
 use Rattle.std.specs.Prelude.{nat_eq, slice_get}
 use Rattle.indexmap.specs.IndexSet.{insert_all, insert_key}
 use Rattle.mod_command.proofs.SelectionWalks.{IsPlaces, IsPlaces-first, IsPlaces-next, IsPlaces-within, reached, reached-end, reached-first, reached-next}
