@@ -6,4 +6,4 @@ mod precedence;
 mod scanner;
 pub mod versions;
 
-pub use versions::{BadVersion, Version};
+pub use versions::{BadVersion, Version, order_texts};

@@ -90,6 +90,13 @@ impl Version {
     }
 }
 
+/// The precedence of the versions with these texts, which are without BUILD.
+pub fn order_texts(first: &str, second: &str) -> Ordering
+    ensures { result ≡ precedence first.now second.now }
+{
+    compare_versions(first, second)
+}
+
 #[cfg(test)]
 mod tests {
     use super::*;
@@ -169,6 +176,13 @@ mod tests {
             longer.push_str("0")?;
         }
         assert!(rt; order_of(alloc, shorter.as_str(), longer.as_str())?.is_lt());
+        Ok(())
+    }
+
+    #[test]
+    fn texts_compare_as_their_versions(rt: HostRuntime) -> Result<(), Fail> {
+        assert!(rt; order_texts("1.9", "1.10").is_lt());
+        assert!(rt; order_texts("", "1").is_gt());
         Ok(())
     }
 

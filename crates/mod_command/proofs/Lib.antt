@@ -1,4 +1,9 @@
+pub mod ChoiceTables
+pub mod Choices
 pub mod Cuts
+pub mod Discoveries
+pub mod FirstPlaces
+pub mod KeySets
 pub mod LiteralDirectives
 pub mod LiteralFiles
 pub mod LiteralMarks
@@ -8,7 +13,6 @@ pub mod LiteralTexts
 pub mod NameEnds
 pub mod Pieces
 pub mod RootPaths
-pub mod WalkSteps
-pub mod KeySets
-pub mod Discoveries
+pub mod SelectionWalks
 pub mod Stopping
+pub mod WalkSteps

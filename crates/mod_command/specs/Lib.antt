@@ -1,3 +1,4 @@
+pub mod ChoiceTables
 pub mod Commands
 pub mod Discovery
 pub mod GraphTexts

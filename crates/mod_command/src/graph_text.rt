@@ -1,0 +1,180 @@
+//! The text of a graph.
+ghost use Rattle.std.specs.Prelude.{◌≡◌, ◌++◌, flat_map, IfOk, OnOk, string_bytes, zip};
+ghost use Rattle.std.specs.Option.{option_copied};
+ghost use Rattle.mod_command.specs.GraphTexts.{dep_line, dep_line_of, graph_lines, module_lines, module_lines_of, node_at};
+
+use crate::keys::push_node;
+use bz_base::{Chosen, Dep, Graph, GraphNode, Mem, Selected, Txt};
+use std::alloc::Global;
+
+/// The lines of the selected modules, in module order.
+pub(crate) fn write_graph(alloc: Global, graph: &Graph, selected: &Selected) -> Mem<Txt>
+    ensures { IfOk result (λ text. text ≡ graph_lines graph.now selected.now) }
+{
+    let nodes = graph.nodes.items();
+    let modules = selected.modules.items();
+    let mut text = String::new(alloc);
+    for chosen in modules {
+        push_module(&mut text, nodes, modules, chosen)?;
+    }
+    Ok(Txt::of_string(text))
+}
+
+fn push_module(
+    text: &mut String,
+    nodes: &[GraphNode],
+    modules: &[Chosen],
+    chosen: &Chosen,
+) -> Mem<()>
+    ensures { OnOk result (string_bytes text.new ≡ string_bytes text.old ++ module_lines nodes.now modules.now chosen.now) }
+{
+    match nodes.get(chosen.node as usize) {
+        Some(node) => push_node_lines(text, nodes, modules, chosen, node),
+        None => Ok(()),
+    }
+}
+
+fn push_node_lines(
+    text: &mut String,
+    nodes: &[GraphNode],
+    modules: &[Chosen],
+    chosen: &Chosen,
+    node: &GraphNode,
+) -> Mem<()>
+    ensures { OnOk result (string_bytes text.new ≡ string_bytes text.old ++ module_lines_of nodes.now modules.now chosen.now node.now) }
+{
+    push_node(text, node)?;
+    text.push_str("\n")?;
+    push_deps(
+        text,
+        nodes,
+        modules,
+        node.decl.deps.items(),
+        chosen.deps.items(),
+    )
+}
+
+fn push_deps(
+    text: &mut String,
+    nodes: &[GraphNode],
+    modules: &[Chosen],
+    deps: &[Dep],
+    places: &[u64],
+) -> Mem<()>
+    ensures { OnOk result (string_bytes text.new ≡ string_bytes text.old ++ flat_map (dep_line_of nodes.now modules.now) (zip deps.now places.now)) }
+{
+    for (dep, place) in deps.iter().zip(places) {
+        push_dep(text, nodes, modules, dep, *place)?;
+    }
+    Ok(())
+}
+
+fn push_dep(
+    text: &mut String,
+    nodes: &[GraphNode],
+    modules: &[Chosen],
+    dep: &Dep,
+    place: u64,
+) -> Mem<()>
+    ensures { OnOk result (string_bytes text.new ≡ string_bytes text.old ++ dep_line_of nodes.now modules.now (dep.now, place)) }
+{
+    match node_at(nodes, modules, place) {
+        Some(needed) => push_dep_line(text, dep.apparent.as_str(), needed),
+        None => Ok(()),
+    }
+}
+
+fn push_dep_line(text: &mut String, apparent: &str, needed: &GraphNode) -> Mem<()>
+    ensures { OnOk result (string_bytes text.new ≡ string_bytes text.old ++ dep_line apparent.now needed.now) }
+{
+    text.push_str("  ")?;
+    text.push_str(apparent)?;
+    text.push_str(" -> ")?;
+    push_node(text, needed)?;
+    Ok(text.push_str("\n")?)
+}
+
+/// The node of the selected module at a place in module order.
+fn node_at<'a>(nodes: &'a [GraphNode], modules: &[Chosen], place: u64) -> Option<&'a GraphNode>
+    ensures { option_copied result ≡ node_at nodes.now modules.now place }
+{
+    let chosen = modules.get(place as usize)?;
+    nodes.get(chosen.node as usize)
+}
+
+#[cfg(test)]
+mod tests {
+    use super::*;
+    use crate::selection::select;
+    use bz_base::{Key, ModuleDecl, Seq};
+    use std::test::Fail;
+
+    fn key(alloc: Global, name: &str, version: &str) -> Mem<Key> {
+        Ok(Key {
+            name: Txt::of(alloc, name)?,
+            version: Txt::of(alloc, version)?,
+        })
+    }
+
+    fn dep(alloc: Global, name: &str, version: &str) -> Mem<Dep> {
+        Ok(Dep {
+            name: Txt::of(alloc, name)?,
+            version: Txt::of(alloc, version)?,
+            apparent: Txt::of(alloc, name)?,
+            dev: false,
+            line: 1,
+        })
+    }
+
+    fn node(
+        alloc: Global,
+        root: bool,
+        name: &str,
+        version: &str,
+        wanted: &[(&str, &str)],
+    ) -> Mem<GraphNode> {
+        let mut deps = Vec::new(alloc);
+        let mut needs = Vec::new(alloc);
+        for (name, version) in wanted {
+            deps.push(dep(alloc, name, version)?)?;
+            needs.push(key(alloc, name, version)?)?;
+        }
+        Ok(GraphNode {
+            key: key(alloc, name, version)?,
+            root,
+            decl: ModuleDecl {
+                name: Txt::of(alloc, name)?,
+                version: Txt::of(alloc, version)?,
+                level: 0,
+                repo_name: Txt::of(alloc, name)?,
+                deps: Seq::of_vec(deps),
+                parts: Seq::new(alloc),
+                overrides: Seq::new(alloc),
+            },
+            needs: Seq::of_vec(needs),
+            registry: Txt::of(alloc, "")?,
+        })
+    }
+
+    #[test]
+    fn the_highest_version_is_printed_for_all_that_ask(rt: HostRuntime) -> Result<(), Fail> {
+        let alloc = rt.alloc();
+        let mut nodes = Vec::new(alloc);
+        nodes.push(node(alloc, true, "", "", &[("a", "1"), ("b", "1.9")])?)?;
+        nodes.push(node(alloc, false, "a", "1", &[("b", "1.10"), ("d", "")])?)?;
+        nodes.push(node(alloc, false, "b", "1.9", &[("c", "1")])?)?;
+        nodes.push(node(alloc, false, "b", "1.10", &[])?)?;
+        nodes.push(node(alloc, false, "d", "", &[])?)?;
+        nodes.push(node(alloc, false, "c", "1", &[])?)?;
+        let graph = Graph {
+            nodes: Seq::of_vec(nodes),
+        };
+        let selected = select(alloc, &graph)?;
+        let text = write_graph(alloc, &graph, &selected)?;
+        assert_eq!(rt;
+            text.as_str(),
+            "<root>\n  a -> a@1\n  b -> b@1.10\na@1\n  b -> b@1.10\n  d -> d@_\nb@1.10\nd@_\n"
+        );
+        Ok(())
+    }
+}
