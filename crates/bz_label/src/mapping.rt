@@ -1,5 +1,5 @@
 //! Repository mappings.
-ghost use Rattle.std.specs.Prelude.{◌≡◌, ◌<◌, ◌++◌, [], ◌∷◌, Err, None, Some, IsSome, OnOk, OnErr, length, slice_get};
+ghost use Rattle.std.specs.Prelude.{◌≡◌, ◌↔◌, ◌<◌, ◌++◌, [], ◌∷◌, Err, None, Some, IsSome, OnOk, OnErr, length, slice_get};
 ghost use Rattle.std.specs.Option.{option_copied};
 ghost use Rattle.bz_base.specs.declared.memory.Miss.TheVariants.{Because};
 ghost use Rattle.bz_label.specs.Mappings.{NamesDiffer, found, put, taken_name};
@@ -42,7 +42,7 @@ impl Mapping {
     pub fn add(&mut self, alloc: Global, apparent: Txt, canonical: Txt) -> May<(), Taken>
         ensures added { OnOk result (self.new ≡ self.old ++ (apparent, canonical) ∷ []) }
         ensures was_absent { OnOk result (found apparent self.old ≡ None) }
-        ensures taken { result ≡ Err (Because taken_name) → IsSome (found apparent self.old) }
+        ensures taken { result ≡ Err (Because taken_name) ↔ IsSome (found apparent self.old) }
         ensures unchanged { OnErr result (self.new ≡ self.old) }
     {
         if self.get(apparent.as_str()).is_some() {
@@ -55,6 +55,7 @@ impl Mapping {
     /// Puts a new name at the end, or another canonical name where the apparent one stands.
     pub fn set(&mut self, _alloc: Global, apparent: Txt, canonical: Txt) -> Mem<()>
         ensures ok { OnOk result (self.new ≡ put apparent canonical self.old) }
+        ensures was_absent { OnErr result (found apparent self.old ≡ None) }
         ensures unchanged { OnErr result (self.new ≡ self.old) }
     {
         match self.names.insert(apparent.into_string(), canonical) {

@@ -19,7 +19,10 @@ pub struct DirTree<'a, R: Files + AllocGlobal + Clone + Drop> {
 }
 
 impl<'a, R: Files + AllocGlobal + Clone + Drop> DirTree<'a, R> {
-    pub fn here(rt: &'a R) -> DirTree<'a, R> {
+    /// The tree of the working directory, with no failed read yet.
+    pub fn here(rt: &'a R) -> DirTree<'a, R>
+        ensures { result.faults ≡ 0 }
+    {
         DirTree {
             rt,
             faults: 0,

@@ -14,7 +14,10 @@ pub struct StdSink<W: Write + Drop> {
 }
 
 impl<W: Write + Drop> StdSink<W> {
-    pub fn of(writer: W) -> StdSink<W> {
+    /// A sink with no failed write yet.
+    pub fn of(writer: W) -> StdSink<W>
+        ensures { result.faults ≡ 0 }
+    {
         StdSink { writer, faults: 0 }
     }
 }
