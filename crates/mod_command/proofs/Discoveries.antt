@@ -1,5 +1,5 @@
 -- The walk of discovery, node by node.
-use Rattle.std.proofs.Common.{◌≡◌, ℕ, suc, ◌+◌, ◌-◌, ◌≤◌, ◌<◌, nat_le, List, [], ◌∷◌, ◌++◌, length, drop, slice_get, get_or, ◌⊎◌, inl, inr, Option, None, Some, Result, Ok, Err, IfOk, Bool, true, false, if◌then◌else◌, refl, ap, sym, ◌∙◌, subst, arith}
+use Rattle.std.proofs.Common.{◌≡◌, ℕ, suc, ◌+◌, ◌-◌, ◌≤◌, ◌<◌, nat_le, List, [], ◌∷◌, ◌++◌, length, drop, slice_get, get_or, ◌⊎◌, inl, inr, None, Some, Result, Ok, Err, IfOk, Bool, true, false, if◌then◌else◌, refl, ap, sym, ◌∙◌, subst, arith}
 use Rattle.std.proofs.Math.ListN.{drop_of_length-le}
 use Rattle.std.proofs.lemmas.Bool.{leb-false}
 use Rattle.std.proofs.lemmas.List.{drop_more, length-append, length_push}
@@ -10,10 +10,10 @@ use Rattle.bz_base.specs.declared.memory.Miss.{Miss}
 use Rattle.bz_base.specs.declared.module_graph.GraphNode.{GraphNode}
 use Rattle.bz_base.specs.declared.module_key.Key.{Key}
 use Rattle.bz_base.specs.declared.refusals.Refusal.{Refusal}
-use Rattle.mod_command.specs.Discovery.{asks_of, bar_of, discovery, discovery_rules, found_for, graph_walked, most_keys, node_of, too_many_refusal}
+use Rattle.mod_command.specs.Discovery.{asks_of, discovery, discovery_rules, found_for, graph_walked, most_keys, node_of, too_many_refusal}
 use Rattle.mod_command.specs.Keys.{same_key}
 use Rattle.mod_command.specs.Stopping.{Files}
-use Rattle.mod_command.specs.Walks.{Walked, levels, next_level, unless_barred, walked_with, with_ask, with_asks, with_node}
+use Rattle.mod_command.specs.Walks.{Walked, levels, unless_barred, walked_with, with_ask, with_asks, with_node}
 use Rattle.mod_command.proofs.WalkSteps.{Grows, levels-refused, levels-walk_on, walk_on, walk_on-ended, walk_on-refused, walk_on-step, with_asks-grows}
 use Rattle.mod_command.specs.declared.asks.Ask.{Ask}
 

@@ -1,5 +1,5 @@
 -- What holds of the files that a tree tells.
-use Rattle.std.proofs.Common.{◌≡◌, ℕ, ◌≤◌, ◌<◌, List, Option, None, Some, IfSome, Result, Ok, Err, refl, sym, ◌∙◌, subst, arith}
+use Rattle.std.proofs.Common.{◌≡◌, ℕ, ◌≤◌, List, Option, None, Some, IfSome, Result, Err, refl, ◌∙◌, subst, arith}
 use Rattle.bz_base.specs.Answers.{Gives}
 use Rattle.bz_base.specs.declared.memory.Miss.{Miss}
 use Rattle.bz_base.specs.declared.memory.Miss.TheVariants as miss

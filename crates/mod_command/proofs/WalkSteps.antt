@@ -1,7 +1,7 @@
 -- A walk node by node, which is what the walk by levels comes to.
-use Rattle.std.proofs.Common.{◌≡◌, ℕ, zero, suc, ◌+◌, ◌-◌, ◌≤◌, ◌<◌, List, [], ◌∷◌, ◌++◌, length, drop, Option, None, Some, Result, Ok, Err, Bool, true, false, if◌then◌else◌, refl, ap, sym, ◌∙◌, subst, arith, append_assoc}
+use Rattle.std.proofs.Common.{◌≡◌, ℕ, zero, suc, ◌+◌, ◌-◌, ◌≤◌, List, [], ◌∷◌, ◌++◌, length, drop, Option, None, Some, Result, Ok, Err, Bool, true, false, if◌then◌else◌, refl, ap, sym, ◌∙◌, subst, arith, append_assoc}
 use Rattle.std.proofs.Math.ListN.{drop_of_length-le}
-use Rattle.std.proofs.lemmas.List.{append-nil, length-append, drop-drop, drop-append-le, length_push, length-drop, nil_from_length}
+use Rattle.std.proofs.lemmas.List.{append-nil, length-append, drop-drop, drop-append-le, length_push, length-drop}
 use Rattle.std.specs.List.{list_any}
 use Rattle.mod_command.specs.Walks.{Rules, Walk, Walked, levels, next_level, unless_barred, walked_with, with_ask, with_asks, with_level, with_node}
 
@@ -80,11 +80,13 @@ walk_on-level {A} {N} {E} walk (ask ∷ level) rest walked e (suc n) m sum =
   where
     refused : (refusal : E) → walk_on walk n (Err refusal) ≡ walk_on walk m (with_level walk (Err refusal) level)
     refused refusal = walk_on-refused walk n refusal ∙ sym (walk_on-refused walk m refusal) ∙ ap (walk_on walk m) (sym (with_level-refused walk refusal level))
+
     added : (node : N) (r : Result (List A) E) → ((known : List A) → r ≡ Ok known → Grows walked.known known) → ((after : Walked A N) (more : List A) → next_level after ≡ level ++ more → walk_on walk n (Ok after) ≡ walk_on walk m (with_level walk (Ok after) level)) → walk_on walk n (walked_with walked.nodes node r) ≡ walk_on walk m (with_level walk (walked_with walked.nodes node r) level)
     added node (Err refusal) grows further = refused refusal
     added node (Ok known) grows further =
         let grown : Grows walked.known known = grows known refl in
         further (record { known = known; nodes = walked.nodes ++ node ∷ [] }) (rest ++ grown.extra) (ap (λ k. drop k known) (length_push walked.nodes node) ∙ ap (drop (length walked.nodes + 1)) grown.behind ∙ drop-behind (length walked.nodes) walked.known grown.extra ask (level ++ rest) e ∙ append_assoc level rest grown.extra)
+
     by : (read : Result N E) → ((after : Walked A N) (more : List A) → next_level after ≡ level ++ more → walk_on walk n (Ok after) ≡ walk_on walk m (with_level walk (Ok after) level)) → walk_on walk n (with_node walk walked read) ≡ walk_on walk m (with_level walk (with_node walk walked read) level)
     by (Err refusal) further = refused refusal
     by (Ok node) further = added node (with_asks walk.rules (Ok walked.known) (walk.asks node)) (with_asks-grows walk.rules (walk.asks node) walked.known) further
@@ -116,6 +118,7 @@ with_level-after {A} {N} {E} walk P kept (ask ∷ level) walked after holds e =
           count = omega (arith, rest.count, length_push walked.nodes node);
           grows = omega (arith, rest.grows, ap length grown.behind ∙ length-append walked.known grown.extra);
         }
+
     by : (read : Result N E) → ((node : N) (more : List A) → read ≡ Ok node → with_asks walk.rules (Ok walked.known) (walk.asks node) ≡ Ok more → P more) → ((middle : Walked A N) → P middle.known → with_level walk (Ok middle) level ≡ Ok after → AfterLevel P middle level after) → with_level walk (with_node walk walked read) level ≡ Ok after → AfterLevel P walked (ask ∷ level) after
     by (Err refusal) keeping further e = absurd (cc (sym (with_level-refused walk refusal level) ∙ e))
     by (Ok node) keeping further e = added node (with_asks walk.rules (Ok walked.known) (walk.asks node)) (λ known. keeping node known refl) (with_asks-grows walk.rules (walk.asks node) walked.known) further e
@@ -148,11 +151,13 @@ levels-walk_on {A} {N} {E} walk P most bounded kept walked holds within (suc n) 
   where
     left : length (next_level walked) + length walked.nodes ≡ length walked.known
     left = omega (arith, length-drop (length walked.nodes) walked.known, within)
+
     behind : (ask : A) (level : List A) → length (ask ∷ level) + length walked.nodes ≡ length walked.known → (k : ℕ) → m ≡ length (ask ∷ level) + k → Agrees walk P most n → (r : Result (Walked A N) E) → ((after : Walked A N) → r ≡ Ok after → AfterLevel P walked (ask ∷ level) after) → levels walk n r ≡ walk_on walk k r
     behind ask level count k sum further (Err refusal) leaves = levels-refused walk n refusal ∙ sym (walk_on-refused walk k refusal)
     behind ask level count k sum further (Ok after) leaves =
         let left_by : AfterLevel P walked (ask ∷ level) after = leaves after refl in
         further after k left_by.holds (omega (arith, left_by.count, left_by.grows, count)) (omega (arith, left_by.count, turns)) (omega (arith, left_by.count, others, sum))
+
     by : (level : List A) → next_level walked ≡ level → Agrees walk P most n → levels walk n (with_level walk (Ok walked) (next_level walked)) ≡ walk_on walk m (Ok walked)
     by [] e further = ap (λ l. levels walk n (with_level walk (Ok walked) l)) e ∙ levels-ended walk n walked e ∙ sym (walk_on-ended walk m walked e)
     by (ask ∷ level) e further =

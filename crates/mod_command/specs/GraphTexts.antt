@@ -1,5 +1,5 @@
 -- The text of a graph: per selected module its key, and a line per dependency.
-use Rattle.std.specs.Prelude.{ℕ, List, [], ◌++◌, zip, flat_map, slice_get, Option, None, Some, codes}
+use Rattle.std.specs.Prelude.{ℕ, List, [], ◌++◌, zip, flat_map, slice_get, Option, codes}
 use Rattle.std.specs.Option.{option_and_then, option_map_or}
 use Rattle.bz_base.specs.declared.declarations.Dep.{Dep}
 use Rattle.bz_base.specs.declared.module_graph.Chosen.{Chosen}

@@ -1,5 +1,5 @@
 -- Module keys, and how they and the root are printed.
-use Rattle.std.specs.Prelude.{ℕ, Bool, if◌then◌else◌, ◌==◌, ◌&&◌, List, [], ◌++◌, length, codes, bytes_eq}
+use Rattle.std.specs.Prelude.{ℕ, Bool, if◌then◌else◌, ◌==◌, ◌&&◌, List, ◌++◌, length, codes, bytes_eq}
 use Rattle.bz_base.specs.declared.module_graph.GraphNode.{GraphNode}
 use Rattle.bz_base.specs.declared.module_key.Key.{Key}
 

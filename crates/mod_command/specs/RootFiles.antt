@@ -1,5 +1,5 @@
 -- The root file.
-use Rattle.std.specs.Prelude.{List, [], Result, Ok, Err, codes}
+use Rattle.std.specs.Prelude.{[], Result, Err, codes}
 use Rattle.bz_base.specs.declared.declarations.ModuleDecl.{ModuleDecl}
 use Rattle.bz_base.specs.declared.refusals.Refusal.{Refusal}
 use Rattle.bz_base.specs.declared.refusals.Code.TheVariants.{NoRoot}

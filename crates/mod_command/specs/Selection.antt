@@ -1,5 +1,5 @@
 -- The selected modules: Bazel, "Bazel modules", section "Version selection": of the versions of a module that are asked for the highest is chosen, and what the root then needs is selected.
-use Rattle.std.specs.Prelude.{ℕ, Bool, true, false, ◌&&◌, not, nat_eq, List, [], ◌∷◌, length, map, filter_map, slice_get, Option, None, Some, Result, Ok, Err, bytes_eq}
+use Rattle.std.specs.Prelude.{ℕ, Bool, true, false, ◌&&◌, not, nat_eq, List, [], ◌∷◌, length, map, filter_map, slice_get, Option, None, Result, Ok, Err, bytes_eq}
 use Rattle.std.specs.List.{list_all, position_from}
 use Rattle.std.specs.Option.{option_map_or}
 use Rattle.std.specs.declared.cmp.Ordering.{Ordering}
@@ -8,7 +8,6 @@ use Rattle.bz_base.specs.declared.module_graph.Chosen.{Chosen}
 use Rattle.bz_base.specs.declared.module_graph.Graph.{Graph}
 use Rattle.bz_base.specs.declared.module_graph.GraphNode.{GraphNode}
 use Rattle.bz_base.specs.declared.module_graph.Selected.{Selected}
-use Rattle.bz_base.specs.declared.module_key.Key.{Key}
 use Rattle.bz_base.specs.declared.refusals.Refusal.{Refusal}
 use Rattle.bz_version.specs.Precedence.{precedence}
 use Rattle.mod_command.specs.Walks.{Rules, Walk, Walked, levels, with_node}

@@ -18,7 +18,11 @@ use std::alloc::Global;
 
 /// The module versions that the root needs, directly or through others, over the files of the default registry.
 #[tactic(auto, unfolding(crate::specs::Discovery::discovered))]
-pub(crate) fn discover<T: Tree>(alloc: Global, root: ModuleDecl, tree: &mut T) -> Result<Graph, Stop>
+pub(crate) fn discover<T: Tree>(
+    alloc: Global,
+    root: ModuleDecl,
+    tree: &mut T,
+) -> Result<Graph, Stop>
     ensures graph { GivesOver (λ look. discovered look root) (T.files tree.old) (T.faults tree.old) (T.faults tree.new) (T.failed tree.new) result }
     ensures files_kept { T.files tree.new ≡ T.files tree.old }
     ensures count_never_falls { T.faults tree.old ≤ T.faults tree.new }
@@ -46,7 +50,12 @@ fn node_of_root(alloc: Global, key: &Key, root: ModuleDecl) -> Mem<GraphNode>
 }
 
 /// All levels behind that of the root.
-fn walk_from<T: Tree>(alloc: Global, tree: &mut T, root: &Key, node: GraphNode) -> Result<Graph, Stop>
+fn walk_from<T: Tree>(
+    alloc: Global,
+    tree: &mut T,
+    root: &Key,
+    node: GraphNode,
+) -> Result<Graph, Stop>
     ensures graph { GivesOver (λ look. graph_walked (levels (discovery look root.now) most_keys (with_node (discovery look root.now) (root_alone root.now) (Ok node)))) (T.files tree.old) (T.faults tree.old) (T.faults tree.new) (T.failed tree.new) result }
     ensures files_kept { T.files tree.new ≡ T.files tree.old }
     ensures count_never_falls { T.faults tree.old ≤ T.faults tree.new }

@@ -116,7 +116,9 @@ mod tests {
                     path = format!(in alloc; "registry/modules/{name}/{version}/MODULE.bazel")?;
                 }
                 let directive = if place == 0 { "module" } else { "bazel_dep" };
-                let call = format!(in alloc; "{directive}(name = \"{name}\", version = \"{version}\")\n")?;
+                let call = format!(in alloc;
+                    "{directive}(name = \"{name}\", version = \"{version}\")\n"
+                )?;
                 text.push_str(call.as_str())?;
             }
         }

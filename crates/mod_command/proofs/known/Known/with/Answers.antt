@@ -1,6 +1,6 @@
-use Rattle.std.proofs.Common.{◌≡◌, Ok, true, false, Bool, not, sym, ◌∙◌, subst, ap}
+use Rattle.std.proofs.Common.{sym, ◌∙◌, subst, ap}
 use Rattle.bz_base.specs.Answers.{Gives}
-use Rattle.mod_command.specs.Discovery.{bar_of, discovery_rules}
+use Rattle.mod_command.specs.Discovery.{discovery_rules}
 use Rattle.mod_command.specs.Walks.{with_ask}
 use Rattle.mod_command.proofs.KeySets.{set_finds, with_ask_known, with_ask_new, absent_if_added, present_unless_added}
 use Rattle.mod_command.proofs.known.Known.with.Goals as goal
