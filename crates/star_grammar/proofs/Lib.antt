@@ -1,0 +1,10 @@
+pub mod ExpressionComplete
+pub mod ExpressionSound
+pub mod Fronts
+pub mod Loops
+pub mod Openings
+pub mod Shrinks
+pub mod StatementComplete
+pub mod StatementSound
+pub mod Steps
+pub mod TextTrees

@@ -1,0 +1,10 @@
+pub mod ExpressionReading
+pub mod Expressions
+pub mod Operators
+pub mod Orders
+pub mod Readers
+pub mod Rules
+pub mod StatementReading
+pub mod Statements
+pub mod Symbols
+pub mod Texts
