@@ -1,3 +1,4 @@
+pub mod ChoiceLaws
 pub mod ChoiceTables
 pub mod Choices
 pub mod Cuts

@@ -1,11 +1,20 @@
-//! Laws of the reading of module files, each over all bytes.
-ghost use Rattle.std.specs.Prelude.{◌≡◌, List, ℕ, Ok};
+//! Laws of the definitions, each over all that they speak of.
+ghost use Rattle.std.specs.Prelude.{◌≡◌, List, ℕ, Ok, Some, None};
+ghost use Rattle.bz_base.specs.declared.module_graph.GraphNode.{GraphNode};
+ghost use Rattle.mod_command.specs.GraphLaws.{HasNone, IsHighest};
 ghost use Rattle.mod_command.specs.LiteralForms.{literal_lines};
 ghost use Rattle.mod_command.specs.LiteralGrammar.{HasLiteralForm};
+ghost use Rattle.mod_command.specs.Selection.{choice};
 ghost use Rattle.mod_command.specs.declared.literal_line.LiteralLine.{LiteralLine};
 
 /// The lines that are read are those by which the grammar spells the bytes, and what it spells is read.
 pub fn literal_form_is_read()
     ensures read { (bytes : List ℕ) (lines : List LiteralLine) → literal_lines bytes ≡ Ok lines → HasLiteralForm bytes lines }
     ensures spelled { (bytes : List ℕ) (lines : List LiteralLine) → HasLiteralForm bytes lines → literal_lines bytes ≡ Ok lines }
+{}
+
+/// The choice of a name is the highest version that stands under it, and every name that stands has one.
+pub fn choice_is_highest()
+    ensures chosen { (name : List ℕ) (nodes : List GraphNode) (place : ℕ) → choice name nodes ≡ Some place → IsHighest name nodes place }
+    ensures absent { (name : List ℕ) (nodes : List GraphNode) → choice name nodes ≡ None → HasNone name nodes }
 {}
