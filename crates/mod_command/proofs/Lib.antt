@@ -3,6 +3,7 @@ pub mod ChoiceTables
 pub mod Choices
 pub mod Cuts
 pub mod Discoveries
+pub mod DiscoveryLaws
 pub mod FirstPlaces
 pub mod KeySets
 pub mod LiteralDirectives
@@ -16,4 +17,5 @@ pub mod Pieces
 pub mod RootPaths
 pub mod SelectionWalks
 pub mod Stopping
+pub mod WalkLaws
 pub mod WalkSteps

@@ -1,10 +1,14 @@
 //! Laws of the definitions, each over all that they speak of.
 ghost use Rattle.std.specs.Prelude.{◌≡◌, List, ℕ, Ok, Some, None};
+ghost use Rattle.bz_base.specs.declared.declarations.ModuleDecl.{ModuleDecl};
+ghost use Rattle.bz_base.specs.declared.module_graph.Graph.{Graph};
 ghost use Rattle.bz_base.specs.declared.module_graph.GraphNode.{GraphNode};
-ghost use Rattle.mod_command.specs.GraphLaws.{HasNone, IsHighest};
+ghost use Rattle.mod_command.specs.Discovery.{discovered};
+ghost use Rattle.mod_command.specs.GraphLaws.{HasNone, IsDiscovery, IsHighest};
 ghost use Rattle.mod_command.specs.LiteralForms.{literal_lines};
 ghost use Rattle.mod_command.specs.LiteralGrammar.{HasLiteralForm};
 ghost use Rattle.mod_command.specs.Selection.{choice};
+ghost use Rattle.mod_command.specs.Stopping.{Files};
 ghost use Rattle.mod_command.specs.declared.literal_line.LiteralLine.{LiteralLine};
 
 /// The lines that are read are those by which the grammar spells the bytes, and what it spells is read.
@@ -17,4 +21,9 @@ pub fn literal_form_is_read()
 pub fn choice_is_highest()
     ensures chosen { (name : List ℕ) (nodes : List GraphNode) (place : ℕ) → choice name nodes ≡ Some place → IsHighest name nodes place }
     ensures absent { (name : List ℕ) (nodes : List GraphNode) → choice name nodes ≡ None → HasNone name nodes }
+{}
+
+/// What is discovered is a whole graph of what the root and the registry declare, and its keys are the least set with the root and all needs of its members.
+pub fn discovered_is_least()
+    ensures { (look : Files) (decl : ModuleDecl) (graph : Graph) → discovered look decl ≡ Ok graph → IsDiscovery look decl graph }
 {}
