@@ -15,6 +15,7 @@ pub mod LiteralTexts
 pub mod NameEnds
 pub mod Pieces
 pub mod RootPaths
+pub mod SelectionLaws
 pub mod SelectionWalks
 pub mod Stopping
 pub mod WalkLaws

@@ -33,6 +33,12 @@ AllByRecursion-right P Q right [] (y ∷ ys) all = absurd all
 AllByRecursion-right P Q right (x ∷ xs) [] all = absurd all
 AllByRecursion-right P Q right (x ∷ xs) (y ∷ ys) all = (right x y all.0, AllByRecursion-right P Q right xs ys all.1)
 
+pub AllByRecursion-left : {A B : Type 0} (P : A → B → Type 0) (Q : A → Type 0) → ((x : A) (y : B) → P x y → Q x) → (xs : List A) (ys : List B) → AllZip P xs ys → AllByRecursion Q xs
+AllByRecursion-left P Q left [] [] all = tt
+AllByRecursion-left P Q left [] (y ∷ ys) all = absurd all
+AllByRecursion-left P Q left (x ∷ xs) [] all = absurd all
+AllByRecursion-left P Q left (x ∷ xs) (y ∷ ys) all = (left x y all.0, AllByRecursion-left P Q left xs ys all.1)
+
 -- pairs of which more is known of the right items
 pub AllZip-beside : {A B : Type 0} (P : A → B → Type 0) (Q : B → Type 0) (R : A → B → Type 0) → ((x : A) (y : B) → P x y → Q y → R x y) → (xs : List A) (ys : List B) → AllZip P xs ys → AllByRecursion Q ys → AllZip R xs ys
 AllZip-beside P Q R both [] [] all those = tt
@@ -248,3 +254,36 @@ IsWalked-first walk alike start first known asked =
       stand = (added.stand, tt);
       least = λ holds begins passes. added.passing holds (begins, tt) (passes.0 begins);
     }
+
+-- a walk that never refuses
+pub record IsOpen {A N E : Type 0} (walk : Walk A N E) : Type 0 where
+  pub reads : (ask : A) → (node : N) × (walk.read ask ≡ Ok node)
+  pub unbarred : (known : List A) (ask : A) → walk.rules.bar known ask ≡ None
+
+with_ask-open : {A N E : Type 0} (walk : Walk A N E) → IsOpen walk → (known : List A) (ask : A) → (more : List A) × (with_ask walk.rules known ask ≡ Ok more)
+with_ask-open {A} {N} {E} walk open_to known ask = by (list_any (walk.rules.same ask) known) (walk.rules.bar known ask) (open_to.unbarred known ask)
+  where
+    by : (there : Bool) (bar : Option E) → bar ≡ None → (more : List A) × ((if there then Ok known else unless_barred known ask bar) ≡ Ok more)
+    by true bar none = (known, refl)
+    by false None none = (known ++ ask ∷ [], refl)
+    by false (Some refusal) none = absurd (cc none)
+
+pub with_asks-open : {A N E : Type 0} (walk : Walk A N E) → IsOpen walk → (asks known : List A) → (more : List A) × (with_asks walk.rules (Ok known) asks ≡ Ok more)
+with_asks-open walk open_to [] known = (known, refl)
+with_asks-open {A} walk open_to (ask ∷ asks) known =
+    let first : (middle : List A) × (with_ask walk.rules known ask ≡ Ok middle) = with_ask-open walk open_to known ask in
+    let rest : (more : List A) × (with_asks walk.rules (Ok first.0) asks ≡ Ok more) = with_asks-open walk open_to asks first.0 in
+    (rest.0, ap (λ r. with_asks walk.rules r asks) first.1 ∙ rest.1)
+
+pub walk_on-open : {A N E : Type 0} (walk : Walk A N E) → IsOpen walk → (n : ℕ) (walked : Walked A N) → (final : Walked A N) × (walk_on walk n (Ok walked) ≡ Ok final)
+unfolding walk_on
+walk_on-open walk open_to zero walked = (walked, refl)
+walk_on-open {A} {N} {E} walk open_to (suc n) walked = by (next_level walked) refl (λ after. walk_on-open walk open_to n after)
+  where
+    by : (level : List A) → next_level walked ≡ level → ((after : Walked A N) → (final : Walked A N) × (walk_on walk n (Ok after) ≡ Ok final)) → (final : Walked A N) × (walk_on walk (suc n) (Ok walked) ≡ Ok final)
+    by [] next further = (walked, walk_on-ended walk (suc n) walked next)
+    by (ask ∷ rest) next further =
+        let read : (node : N) × (walk.read ask ≡ Ok node) = open_to.reads ask in
+        let asked : (more : List A) × (with_asks walk.rules (Ok walked.known) (walk.asks read.0) ≡ Ok more) = with_asks-open walk open_to (walk.asks read.0) walked.known in
+        let after : (final : Walked A N) × (walk_on walk n (Ok (record { known = asked.0; nodes = walked.nodes ++ read.0 ∷ [] })) ≡ Ok final) = further (record { known = asked.0; nodes = walked.nodes ++ read.0 ∷ [] }) in
+        (after.0, walk_on-step walk n walked ask rest next ∙ ap (λ r. walk_on walk n (with_node walk walked r)) read.1 ∙ ap (λ r. walk_on walk n (walked_with walked.nodes read.0 r)) asked.1 ∙ after.1)

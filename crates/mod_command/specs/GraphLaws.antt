@@ -1,15 +1,19 @@
 -- What choices, discovery and selection come to.
-use Rattle.std.specs.Prelude.{◌≡◌, ◌≢◌, ℕ, Bool, false, List, [], ◌∷◌, slice_get, Some, Ok, All, IsTrue, codes}
+use Rattle.std.specs.Prelude.{◌≡◌, ◌≢◌, ℕ, Bool, false, List, [], ◌∷◌, slice_get, Some, Ok, All, IsSomeAnd, IsTrue, codes}
+use Rattle.std.specs.List.{AllZip}
 use Rattle.std.specs.declared.cmp.Ordering.TheVariants.{Greater}
-use Rattle.bz_base.specs.Graphs.{IsGraph}
+use Rattle.bz_base.specs.Graphs.{IsGraph, IsSelectedOf}
 use Rattle.bz_base.specs.declared.declarations.ModuleDecl.{ModuleDecl}
+use Rattle.bz_base.specs.declared.module_graph.Chosen.{Chosen}
 use Rattle.bz_base.specs.declared.module_graph.Graph.{Graph}
 use Rattle.bz_base.specs.declared.module_graph.GraphNode.{GraphNode}
+use Rattle.bz_base.specs.declared.module_graph.Selected.{Selected}
 use Rattle.bz_base.specs.declared.module_key.Key.{Key}
 use Rattle.bz_tree.specs.declared.tree.Found.TheVariants.{Bytes}
 use Rattle.bz_version.specs.Precedence.{precedence}
 use Rattle.mod_command.specs.Discovery.{declared_as, found_for, node_with, root_key, root_node}
 use Rattle.mod_command.specs.ModuleFiles.{declared_in}
+use Rattle.mod_command.specs.Selection.{choice, chosen_at}
 use Rattle.mod_command.specs.Stopping.{Files}
 
 -- at the place stands a node of the name, and no node of the name has a higher version
@@ -45,3 +49,23 @@ pub record IsDiscovery (look : Files) (decl : ModuleDecl) (graph : Graph) : Type
   pub graph_is : IsGraph graph
   pub declared : AreDeclared look decl graph.nodes
   pub least : (holds : Key → Bool) → IsTrue (holds (root_key decl)) → HoldsOnNeeds holds graph.nodes → All (λ node. IsTrue (holds node.key)) graph.nodes
+
+-- at the place stands the selected module whose node is the choice of the need
+abbrev pub NamesChoice : List GraphNode → List Chosen → ℕ → Key → Type 0
+NamesChoice nodes modules place need = IsSomeAnd (slice_get modules place) (λ needed. choice need.name nodes ≡ Some needed.node)
+
+-- the dependencies of a selected module name the choices of its node's needs, in order
+pub record HasChosenDeps (nodes : List GraphNode) (modules : List Chosen) (chosen : Chosen) : Type 0 where
+  pub node : GraphNode
+  pub there : slice_get nodes chosen.node ≡ Some node
+  pub named : AllZip (NamesChoice nodes modules) chosen.deps node.needs
+
+-- where the test holds of a selected module's node, it holds of the choice of each of its needs
+abbrev pub HoldsOnChoices : (ℕ → Bool) → List GraphNode → List Chosen → Type 0
+HoldsOnChoices holds nodes modules = All (λ chosen. IsTrue (holds chosen.node) → All (λ place. IsTrue (holds place)) (chosen_at nodes chosen.node)) modules
+
+-- the root and all choices of the needs of what is selected, and nothing but those: each set with the first place and all choices of its members' needs has each selected node's place
+pub record IsSelection (graph : Graph) (selected : Selected) : Type 0 where
+  pub selected_is : IsSelectedOf graph selected
+  pub chosen : All (HasChosenDeps graph.nodes selected.modules) selected.modules
+  pub least : (holds : ℕ → Bool) → IsTrue (holds 0) → HoldsOnChoices holds graph.nodes selected.modules → All (λ chosen. IsTrue (holds chosen.node)) selected.modules
