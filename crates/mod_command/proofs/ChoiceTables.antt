@@ -35,7 +35,7 @@ is_superior-lifted x y z low high = by (precedence y.key.version x.key.version) 
     by Equal o h = ap (λ version. is_greater (precedence z.key.version version)) (precedence_same y.key.version x.key.version o) ∙ high
     by Greater o h = absurd (cc)
 
-versions_have_heights : Heights GraphNode is_superior
+pub versions_have_heights : Heights GraphNode is_superior
 versions_have_heights = record {
   irreflexive = λ x. ap is_greater (precedence_itself x.key.version);
   asymmetric = is_superior-asymmetric;

@@ -126,7 +126,7 @@ module _ {X : Type 0} (member : X → Bool) (above : X → X → Bool) where
   last_first heights xs last there top = (λ i. there i && is_top-more xs last last i) ∙ (λ i. top i && (not (there i && heights.irreflexive last i) && true))
 
   -- a group with a member has a choice
-  abbrev HasChoice : List X → Type 0
+  abbrev pub HasChoice : List X → Type 0
   HasChoice xs = place xs ≡ None → has_none xs ≡ true
 
   grown_other : (xs : List X) (last : X) → member last ≡ false → place (xs ++ last ∷ []) ≡ place xs
@@ -210,7 +210,7 @@ module _ {X : Type 0} (member : X → Bool) (above : X → X → Bool) where
       by true (Some i) e true is_s h = absurd (cc)
       by false placed e s is_s h = ap (λ b. b && true) (chosen h)
 
-  HasChoice-more : Heights X above → (xs more : List X) → HasChoice xs → HasChoice (xs ++ more)
+  pub HasChoice-more : Heights X above → (xs more : List X) → HasChoice xs → HasChoice (xs ++ more)
   HasChoice-more heights xs [] chosen = subst HasChoice (sym (append-nil xs)) chosen
   HasChoice-more heights xs (x ∷ more) chosen = subst HasChoice (append_assoc xs (x ∷ []) more) (HasChoice-more heights (xs ++ x ∷ []) more (HasChoice-grown heights xs x chosen))
 

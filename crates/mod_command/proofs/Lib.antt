@@ -1,7 +1,9 @@
+pub mod ChoiceLaws
 pub mod ChoiceTables
 pub mod Choices
 pub mod Cuts
 pub mod Discoveries
+pub mod DiscoveryLaws
 pub mod FirstPlaces
 pub mod KeySets
 pub mod LiteralDirectives
@@ -13,6 +15,8 @@ pub mod LiteralTexts
 pub mod NameEnds
 pub mod Pieces
 pub mod RootPaths
+pub mod SelectionLaws
 pub mod SelectionWalks
 pub mod Stopping
+pub mod WalkLaws
 pub mod WalkSteps

@@ -26,7 +26,7 @@ pub record IsPlaces (most : ℕ) (known : List ℕ) : Type 0 where
   pub distinct : IsDistinct nat_eq known
   pub below : (q : ℕ) → list_any (nat_eq q) known ≡ true → q < most
 
-IsPlaces-length : (most : ℕ) (known : List ℕ) → IsPlaces most known → length known ≤ most
+pub IsPlaces-length : (most : ℕ) (known : List ℕ) → IsPlaces most known → length known ≤ most
 IsPlaces-length most known places = length-le_from_distinct_below known most places.distinct places.below
 
 IsPlaces-put : (most : ℕ) (known : List ℕ) (ask : ℕ) → IsPlaces most known → ask < most → IsPlaces most (insert_key nat_eq known ask)
@@ -80,7 +80,7 @@ with_asks-put known [] = refl
 with_asks-put known (ask ∷ asks) =
     ap (λ r. with_asks selection_rules r asks) (with_ask-put known ask) ∙ with_asks-put (insert_key nat_eq known ask) asks
 
-selection-kept : (nodes : List GraphNode) → Keeps (selection nodes) (IsPlaces (length nodes))
+pub selection-kept : (nodes : List GraphNode) → Keeps (selection nodes) (IsPlaces (length nodes))
 selection-kept nodes known more ask node places read asked =
     let same : insert_all nat_eq known (chosen_at nodes node) ≡ more = cc (with_asks-put known (chosen_at nodes node)) in
     subst (IsPlaces (length nodes)) same (IsPlaces-put_all (length nodes) (chosen_at nodes node) known (chosen_at-below nodes node) places)

@@ -1,6 +1,7 @@
 pub mod ChoiceTables
 pub mod Commands
 pub mod Discovery
+pub mod GraphLaws
 pub mod GraphTexts
 pub mod Graphs
 pub mod KeySets
