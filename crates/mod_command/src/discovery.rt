@@ -7,9 +7,9 @@ ghost use Rattle.mod_command.specs.Stopping.{GivesOver};
 ghost use Rattle.mod_command.specs.Walks.{levels, with_asks, with_node};
 
 use crate::asks::Ask;
-use crate::keys::{push_key, push_node};
+use crate::keys::{copy_key, push_key, push_node};
 use crate::known::Known;
-use crate::module_file::{copy_key, form, read_module};
+use crate::module_file::{form, read_module};
 use crate::reading::read_by;
 use crate::stops::{Stop, stop_of};
 use bz_base::{Code, Dep, Graph, GraphNode, Key, May, Mem, Miss, ModuleDecl, Refusal, Seq, Txt};

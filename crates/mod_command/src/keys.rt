@@ -1,8 +1,19 @@
-//! How keys and modules are printed.
-ghost use Rattle.std.specs.Prelude.{◌≡◌, ◌++◌, OnOk, string_bytes};
+//! Keys, and how they and the root are printed.
+ghost use Rattle.std.specs.Prelude.{◌≡◌, ◌++◌, IfOk, OnOk, string_bytes};
 ghost use Rattle.mod_command.specs.Keys.{key_text, node_text, version_text};
 
 use bz_base::{GraphNode, Key, Mem};
+use std::alloc::Global;
+
+/// A second key with the same texts.
+pub(crate) fn copy_key(alloc: Global, key: &Key) -> Mem<Key>
+    ensures { IfOk result (λ copy. copy ≡ key.now) }
+{
+    Ok(Key {
+        name: key.name.copy(alloc)?,
+        version: key.version.copy(alloc)?,
+    })
+}
 
 /// `NAME@VERSION`, with `_` for the empty version.
 pub(crate) fn push_key(text: &mut String, key: &Key) -> Mem<()>

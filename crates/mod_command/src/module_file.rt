@@ -4,6 +4,7 @@ ghost use Rattle.bz_base.specs.Answers.{Gives};
 ghost use Rattle.mod_command.specs.LiteralForms.{literal_lines};
 ghost use Rattle.mod_command.specs.ModuleFiles.{declared_by, declared_in, declared_with, dep_at, deps_from, form_refusal, key_declared};
 
+use crate::keys::copy_key;
 use crate::literal_form::read_lines;
 use crate::literal_line::LiteralLine;
 use bz_base::{Code, Dep, Key, May, Mem, Miss, ModuleDecl, Refusal, Seq, Txt};
@@ -48,16 +49,6 @@ fn declared_key(alloc: Global, lines: &[LiteralLine]) -> Mem<Key>
     Ok(Key {
         name: Txt::of_string(String::new(alloc)),
         version: Txt::of_string(String::new(alloc)),
-    })
-}
-
-/// A second key with the same texts.
-pub(crate) fn copy_key(alloc: Global, key: &Key) -> Mem<Key>
-    ensures { IfOk result (λ copy. copy ≡ key.now) }
-{
-    Ok(Key {
-        name: key.name.copy(alloc)?,
-        version: key.version.copy(alloc)?,
     })
 }
 
