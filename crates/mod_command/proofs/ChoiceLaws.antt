@@ -1,5 +1,6 @@
 -- The choice of a group is its highest member, and only a group of none has no choice.
-use Rattle.std.proofs.Common.{◌≡◌, ◌≢◌, ℕ, Bool, true, false, ◌&&◌, not, List, [], None, Some, refl, ap, sym, ◌∙◌, arith}
+use Rattle.std.proofs.Common.{◌≡◌, ◌≢◌, ℕ, true, ◌&&◌, not, List, [], None, Some, refl, ap, sym, ◌∙◌, arith}
+use Rattle.std.proofs.lemmas.Bool.{and_parts}
 use Rattle.std.proofs.lemmas.List.Elements.{All-weaker}
 use Rattle.std.proofs.lemmas.List.Sums.{AllPass-from_list_all}
 use Rattle.std.proofs.lemmas.Slice.Eq.{bytes_eq-Decides}
@@ -13,10 +14,6 @@ use Rattle.mod_command.proofs.FirstPlaces.{FoundAt, position_from-item}
 use Rattle.mod_command.specs.GraphLaws.{HasNone, IsHighest}
 use Rattle.mod_command.specs.Selection.{choice, is_choice, is_greater, is_member, is_superior, is_unsurpassed}
 
-both : (b c : Bool) → (b && c) ≡ true → (b ≡ true) × (c ≡ true)
-both true c h = (refl, h)
-both false c h = absurd (cc)
-
 pub is_member-named : (name : List ℕ) (node : GraphNode) → name ≡ node.key.name → is_member name node ≡ true
 is_member-named name node e = (bytes_eq-Decides name node.key.name).1 e
 
@@ -27,7 +24,7 @@ pub choice-highest : (name : List ℕ) (nodes : List GraphNode) (place : ℕ) �
 choice-highest name nodes place e =
     let found : FoundAt (is_choice name nodes) 0 nodes place = position_from-item (is_choice name nodes) 0 nodes place e in
     let same : place ≡ found.offset = omega (arith, found.at) in
-    let parts : (is_member name found.item ≡ true) × (is_unsurpassed name nodes found.item ≡ true) = both (is_member name found.item) (is_unsurpassed name nodes found.item) found.passes in
+    let parts : (is_member name found.item ≡ true) × (is_unsurpassed name nodes found.item ≡ true) = and_parts (is_member name found.item) (is_unsurpassed name nodes found.item) found.passes in
     record {
       node = found.item;
       there = ap (slice_get nodes) same ∙ found.there;

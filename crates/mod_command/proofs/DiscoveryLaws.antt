@@ -1,5 +1,6 @@
 -- Discovery gives a whole graph of what the root and the registry declare, and no more than is needed.
 use Rattle.std.proofs.Common.{◌≡◌, ◌≢◌, ℕ, ◌-◌, ◌≤◌, List, [], ◌∷◌, length, map, Result, Ok, Err, Bool, true, false, ◌&&◌, ◌||◌, refl, ap, sym, ◌∙◌, subst, arith}
+use Rattle.std.proofs.lemmas.Bool.{and_parts}
 use Rattle.std.proofs.lemmas.Cmp.{nat_list_eq_equiv}
 use Rattle.std.proofs.lemmas.List.{length-map}
 use Rattle.std.proofs.lemmas.List.Elements.{All-from_recursion, recursion_from_All}
@@ -19,7 +20,8 @@ use Rattle.bz_base.specs.declared.refusals.Refusal.{Refusal}
 use Rattle.bz_tree.specs.declared.tree.Found.{Found}
 use Rattle.bz_tree.specs.declared.tree.Found.TheVariants.{Bytes, Large, Listing, Absent}
 use Rattle.mod_command.proofs.Discoveries.{HasRoom, levels-nodes, walked_as, walked_with-barred, with_asks-longer, with_asks-room}
-use Rattle.mod_command.proofs.WalkLaws.{AllByRecursion-weaker, AllPassing, AllZip-weaker, AllByRecursion-both, AllByRecursion-right, AllZip-beside, IsEnded, IsReadBy, IsWalked-first, IsWhole, PassesOn, Stands, walk_on-ends}
+use Rattle.mod_command.proofs.EachItem.{AllByRecursion-both, AllByRecursion-right, AllByRecursion-weaker, AllZip-beside, AllZip-weaker}
+use Rattle.mod_command.proofs.WalkLaws.{AllPassing, IsEnded, IsReadBy, IsWalked-first, IsWhole, PassesOn, Stands, walk_on-ends}
 use Rattle.mod_command.specs.Discovery.{ask_of, asks_of, declared_as, discovered, discovery, discovery_rules, effective, file_text, found_for, graph_walked, most_keys, node_of, registry_node, root_ask, root_key, root_node}
 use Rattle.mod_command.specs.GraphLaws.{HoldsOnNeeds, IsDiscovery, IsFromRegistry}
 use Rattle.mod_command.specs.Keys.{same_key}
@@ -28,13 +30,9 @@ use Rattle.mod_command.specs.Stopping.{Files}
 use Rattle.mod_command.specs.Walks.{Walked, levels, walked_with, with_asks}
 use Rattle.mod_command.specs.declared.asks.Ask.{Ask}
 
-both : (b c : Bool) → (b && c) ≡ true → (b ≡ true) × (c ≡ true)
-both true c h = (refl, h)
-both false c h = absurd (cc)
-
 same_key-congr : (one other third : Key) → same_key one other ≡ true → same_key one third ≡ same_key other third
 same_key-congr one other third h =
-    let parts : (bytes_eq one.name other.name ≡ true) × (bytes_eq one.version other.version ≡ true) = both (bytes_eq one.name other.name) (bytes_eq one.version other.version) h in
+    let parts : (bytes_eq one.name other.name ≡ true) × (bytes_eq one.version other.version ≡ true) = and_parts (bytes_eq one.name other.name) (bytes_eq one.version other.version) h in
     λ i. nat_list_eq_equiv.congr one.name other.name third.name parts.0 i && nat_list_eq_equiv.congr one.version other.version third.version parts.1 i
 
 same_key-itself : (key : Key) → same_key key key ≡ true
@@ -42,7 +40,7 @@ same_key-itself key = λ i. nat_list_eq_equiv.refl key.name i && nat_list_eq_equ
 
 same_key-same : (one other : Key) → same_key one other ≡ true → one ≡ other
 same_key-same one other h =
-    let parts : (bytes_eq one.name other.name ≡ true) × (bytes_eq one.version other.version ≡ true) = both (bytes_eq one.name other.name) (bytes_eq one.version other.version) h in
+    let parts : (bytes_eq one.name other.name ≡ true) × (bytes_eq one.version other.version ≡ true) = and_parts (bytes_eq one.name other.name) (bytes_eq one.version other.version) h in
     let names : one.name ≡ other.name = (bytes_eq-Decides one.name other.name).0 parts.0 in
     let versions : one.version ≡ other.version = (bytes_eq-Decides one.version other.version).0 parts.1 in
     λ i. record { name = names i; version = versions i }

@@ -4,6 +4,7 @@ pub mod Choices
 pub mod Cuts
 pub mod Discoveries
 pub mod DiscoveryLaws
+pub mod EachItem
 pub mod FirstPlaces
 pub mod KeySets
 pub mod LiteralDirectives

@@ -17,9 +17,10 @@ use Rattle.bz_base.specs.declared.module_graph.GraphNode.{GraphNode}
 use Rattle.bz_base.specs.declared.module_graph.Selected.{Selected}
 use Rattle.bz_base.specs.declared.module_key.Key.{Key}
 use Rattle.mod_command.proofs.ChoiceLaws.{choice-none}
+use Rattle.mod_command.proofs.EachItem.{AllByRecursion-both, AllByRecursion-left, AllByRecursion-weaker}
 use Rattle.mod_command.proofs.FirstPlaces.{FoundAt, position_from-item}
 use Rattle.mod_command.proofs.SelectionWalks.{IsPlaces, IsPlaces-first, IsPlaces-length, selected_of_nodes-walked, selection-kept}
-use Rattle.mod_command.proofs.WalkLaws.{AllByRecursion-both, AllByRecursion-left, AllByRecursion-weaker, IsEnded, IsOpen, IsReadBy, IsWalked-first, IsWhole, PassesOn, Stands, walk_on-ends, walk_on-open, walked_to, with_asks-open}
+use Rattle.mod_command.proofs.WalkLaws.{IsEnded, IsOpen, IsReadBy, IsWalked-first, IsWhole, PassesOn, Stands, walk_on-ends, walk_on-open, walked_to, with_asks-open}
 use Rattle.mod_command.proofs.WalkSteps.{Grows, levels-walk_on, walk_on, with_asks-grows}
 use Rattle.mod_command.specs.GraphLaws.{HasChosenDeps, HasNone, HoldsOnChoices, IsSelection, NamesChoice}
 use Rattle.mod_command.specs.Selection.{choice, chosen_at, chosen_needs, chosen_of, places_in, places_walked, selected_of, selected_of_nodes, selection, selection_rules}
