@@ -1,5 +1,6 @@
 pub mod LayoutLaws
 pub mod MarkLengths
+pub mod NameSlices
 pub mod Numbers
 pub mod PieceLaws
 pub mod RunLengths

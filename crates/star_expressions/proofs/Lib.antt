@@ -1,0 +1,4 @@
+pub mod ItemTests
+pub mod Loosest
+pub mod NameLists
+pub mod Turns

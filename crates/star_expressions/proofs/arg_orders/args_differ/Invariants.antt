@@ -1,0 +1,12 @@
+use Rattle.std.proofs.Common.{◌≡◌, ℕ, List, length}
+use Rattle.star_grammar.specs.Orders.{all_different, all_new, arg_names}
+use Rattle.star_expressions.specs.NameSets.{Holds}
+use Rattle.star_expressions.proofs.arg_orders.args_differ.Given as goal
+
+-- the set holds the names so far, and what is left decides
+abbrev pub invariant-turns : goal.invariant-turns
+invariant-turns l =
+    (before : List (List ℕ)) × Holds l.names before × (all_different (arg_names l.fn.args) ≡ all_new before (arg_names l.rest))
+
+abbrev pub decreases-turns : goal.decreases-turns
+decreases-turns l = length l.rest

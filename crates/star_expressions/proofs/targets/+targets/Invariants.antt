@@ -1,0 +1,7 @@
+use Rattle.std.proofs.Common.{◌≡◌, drop, map}
+use Rattle.star_grammar.specs.Orders.{all_of, is_target, some_and_all}
+use Rattle.star_expressions.proofs.targets.+targets.Given as goal
+
+abbrev pub invariant-are_targets-targets : goal.invariant-are_targets-targets
+invariant-are_targets-targets l =
+    some_and_all (map is_target l.targets) ≡ all_of (map is_target (drop l.target-index l.targets))

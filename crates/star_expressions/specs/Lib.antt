@@ -1,0 +1,3 @@
+pub mod NameSets
+pub mod Nests
+pub mod Reads

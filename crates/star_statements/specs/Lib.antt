@@ -1,0 +1,4 @@
+pub mod Begun
+pub mod NestsStatements
+pub mod Parsed
+pub mod Slices
