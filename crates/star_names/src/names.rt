@@ -1,0 +1,57 @@
+//! The variables of a scope, each with its place.
+ghost use Rattle.std.specs.Prelude.{◌≡◌, [], IfOk, length};
+ghost use Rattle.star_names.specs.Variables.{place, with_binding};
+
+use bz_base::{Mem, Txt};
+use indexmap::IndexSet;
+use std::alloc::Global;
+use std::marker::Model;
+
+/// Names in the order in which they were first bound. Contracts see their list.
+#[derive(Drop)]
+pub struct Names {
+    texts: IndexSet<String>,
+}
+
+impl Model for Names {
+    ghost use Rattle.star_names.specs.NameTexts.{names_of};
+    ghost use Rattle.star_names.specs.Variables.{Names};
+
+    ghost Value = { Names };
+
+    ghost view = { λ n. names_of n.texts.keys };
+}
+
+impl Names {
+    /// No names.
+    pub fn new(alloc: Global) -> Names
+        ensures { result ≡ [] }
+    {
+        Names {
+            texts: IndexSet::new(alloc),
+        }
+    }
+
+    pub fn len(&self) -> usize
+        ensures { result ≡ length self.now }
+    {
+        self.texts.len()
+    }
+
+    /// Binds a name.
+    pub fn with(self, alloc: Global, name: &Txt) -> Mem<Names>
+        ensures { IfOk result (λ names. names ≡ with_binding self name.now) }
+    {
+        let Names { texts } = self;
+        let mut texts = texts;
+        texts.insert_full(name.copy(alloc)?.into_string())?;
+        Ok(Names { texts })
+    }
+
+    /// The place of a name.
+    pub fn place(&self, name: &str) -> Option<usize>
+        ensures { result ≡ place self.now name.now }
+    {
+        self.texts.get_index_of(name)
+    }
+}

@@ -1,0 +1,96 @@
+//! The scopes that stand round a place of a file.
+ghost use Rattle.std.specs.Prelude.{◌≡◌, [], ◌∷◌, IfOk, length};
+ghost use Rattle.star_names.specs.Variables.{found, outer};
+
+use crate::names::Names;
+use bz_base::Mem;
+use std::alloc::Global;
+use std::marker::Model;
+
+/// Scopes. Contracts see the list of their variables, from the innermost on.
+#[derive(Drop)]
+pub struct Scopes {
+    stack: Vec<Names>,
+}
+
+impl Model for Scopes {
+    ghost use Rattle.std.specs.Prelude.{List, reverse};
+    ghost use Rattle.star_names.specs.Variables.{Names};
+
+    ghost Value = { List Names };
+
+    ghost view = { λ s. reverse s.stack.items };
+}
+
+impl Scopes {
+    /// No scopes.
+    pub fn new(alloc: Global) -> Scopes
+        ensures { result ≡ [] }
+    {
+        Scopes {
+            stack: Vec::new(alloc),
+        }
+    }
+
+    pub fn len(&self) -> usize
+        ensures { result ≡ length self.now }
+    {
+        self.stack.len()
+    }
+
+    /// One more scope inside.
+    pub fn enter(&mut self, names: Names) -> Mem<()>
+        ensures { IfOk result (λ _. self.new ≡ names ∷ self.old) }
+    {
+        self.stack.push(names)?;
+        Ok(())
+    }
+
+    /// Without the innermost scope.
+    pub fn leave(&mut self)
+        ensures { self.new ≡ outer self.old }
+    {
+        self.stack.pop();
+    }
+
+    /// The innermost scope that binds a name, counted outwards from 0, and the name's place there.
+    pub fn find(&self, name: &str) -> Option<(usize, usize)>
+        ensures { result ≡ found self.now name.now }
+    {
+        let mut rest = self.stack.as_slice();
+        'turns: while let Some((names, outer)) = rest.split_last() {
+            if let Some(slot) = names.place(name) {
+                return Some((self.stack.len() - rest.len(), slot));
+            }
+            rest = outer;
+        }
+        None
+    }
+}
+
+#[cfg(test)]
+mod tests {
+    use super::*;
+    use bz_base::Txt;
+    use std::test::Fail;
+
+    #[test]
+    fn the_innermost_scope_wins(rt: HostRuntime) -> Result<(), Fail> {
+        let alloc = rt.alloc();
+        let file = Names::new(alloc).with(alloc, &Txt::of(alloc, "a")?)?;
+        let file = file.with(alloc, &Txt::of(alloc, "b")?)?;
+        let file = file.with(alloc, &Txt::of(alloc, "a")?)?;
+        assert_eq!(rt; file.len(), 2);
+        let function = Names::new(alloc).with(alloc, &Txt::of(alloc, "b")?)?;
+        let mut scopes = Scopes::new(alloc);
+        scopes.enter(file)?;
+        scopes.enter(function)?;
+        assert_eq!(rt; scopes.len(), 2);
+        assert_eq!(rt; scopes.find("b"), Some((0, 0)));
+        assert_eq!(rt; scopes.find("a"), Some((1, 0)));
+        assert_eq!(rt; scopes.find("c"), None);
+        scopes.leave();
+        assert_eq!(rt; scopes.find("b"), Some((0, 1)));
+        Ok(())
+    }
+}
