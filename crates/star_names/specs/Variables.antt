@@ -28,7 +28,11 @@ abbrev pub found : List Names → List ℕ → Option (ℕ × ℕ)
 found [] name = None
 found (names ∷ outer) name = found_here (place names name) (found outer name)
 
--- the scopes round the innermost
+-- the innermost scope, and those round it
+abbrev pub innermost : List Names → Option Names
+innermost [] = None
+innermost (names ∷ scopes) = Some names
+
 abbrev pub outer : List Names → List Names
 outer [] = []
 outer (names ∷ scopes) = scopes

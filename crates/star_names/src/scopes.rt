@@ -1,6 +1,6 @@
 //! The scopes that stand round a place of a file.
 ghost use Rattle.std.specs.Prelude.{◌≡◌, [], ◌∷◌, IfOk, length};
-ghost use Rattle.star_names.specs.Variables.{found, outer};
+ghost use Rattle.star_names.specs.Variables.{found, innermost, outer};
 
 use crate::names::Names;
 use bz_base::Mem;
@@ -46,11 +46,12 @@ impl Scopes {
         Ok(())
     }
 
-    /// Without the innermost scope.
-    pub fn leave(&mut self)
-        ensures { self.new ≡ outer self.old }
+    /// Leaves the innermost scope, and gives its names.
+    pub fn leave(&mut self) -> Option<Names>
+        ensures names { result ≡ innermost self.old }
+        ensures left { self.new ≡ outer self.old }
     {
-        self.stack.pop();
+        self.stack.pop()
     }
 
     /// The innermost scope that binds a name, counted outwards from 0, and the name's place there.
@@ -89,7 +90,7 @@ mod tests {
         assert_eq!(rt; scopes.find("b"), Some((0, 0)));
         assert_eq!(rt; scopes.find("a"), Some((1, 0)));
         assert_eq!(rt; scopes.find("c"), None);
-        scopes.leave();
+        assert!(rt; scopes.leave().is_some());
         assert_eq!(rt; scopes.find("b"), Some((0, 1)));
         Ok(())
     }

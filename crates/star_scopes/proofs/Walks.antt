@@ -1,0 +1,29 @@
+-- Lists, walked item by item.
+use Rattle.std.proofs.Common.{◌≡◌, ℕ, suc, ◌+◌, ◌<◌, List, [], ◌∷◌, ◌++◌, length, get_or, drop, map, refl, ap, sym, ◌∙◌, add-one, drop-cons, arith}
+use Rattle.star_names.specs.Variables.{Names}
+use Rattle.star_scopes.specs.Bindings.{Binding, each_binds}
+use Rattle.star_scopes.specs.Uses.{Uses, each_uses, then_uses}
+
+-- one more item of those that are left
+drop-next : {A : Type 0} (xs : List A) (i : ℕ) (x : A) → i < length xs → x ≡ get_or xs i x → drop i xs ≡ x ∷ drop (i + 1) xs
+drop-next xs i x below is =
+    let next : drop i xs ≡ get_or xs i x ∷ drop (suc i) xs = drop-cons xs i x below in
+    next ∙ (λ k. sym is k ∷ drop (sym (add-one i) k) xs)
+
+pub each_binds-drop : {A B : Type 0} (binds : B → Binding) (means : A → B) (xs : List A) (i : ℕ) (x : A) (names : Names) → i < length xs → x ≡ get_or xs i x
+    → each_binds (map binds (map means (drop i xs))) names ≡ each_binds (map binds (map means (drop (i + 1) xs))) (binds (means x) names)
+each_binds-drop binds means xs i x names below is = ap (λ left. each_binds (map binds (map means left)) names) (drop-next xs i x below is)
+
+pub ruleset binding_walks = (each_binds-drop)
+
+pub loaded-drop : {A : Type 0} (binds : A → Binding) (xs : List A) (i : ℕ) (x : A) (names : Names) → i < length xs → x ≡ get_or xs i x
+    → each_binds (map binds (drop i xs)) names ≡ each_binds (map binds (drop (i + 1) xs)) (binds x names)
+loaded-drop binds xs i x names below is = ap (λ left. each_binds (map binds left) names) (drop-next xs i x below is)
+
+pub ruleset loaded_walks = (loaded-drop)
+
+pub each_uses-drop : {A B : Type 0} (uses : B → Uses) (means : A → B) (xs : List A) (i : ℕ) (x : A) (names : Names) → i < length xs → x ≡ get_or xs i x
+    → each_uses (map uses (map means (drop i xs))) names ≡ then_uses (uses (means x) names) (each_uses (map uses (map means (drop (i + 1) xs))))
+each_uses-drop uses means xs i x names below is = ap (λ left. each_uses (map uses (map means left)) names) (drop-next xs i x below is)
+
+pub ruleset use_walks = (each_uses-drop)

@@ -1,0 +1,15 @@
+pub mod Bindings
+pub mod Binds
+pub mod ExprMaking
+pub mod ExprMeaning
+pub mod ExprUses
+pub mod Files
+pub mod FreeNames
+pub mod Making
+pub mod Meanings
+pub mod Scopes
+pub mod StatementBinds
+pub mod StatementMaking
+pub mod StatementMeaning
+pub mod StatementUses
+pub mod Uses
