@@ -1,5 +1,8 @@
 -- Names, kept under owned texts.
-use Rattle.std.proofs.Common.{◌≡◌, ℕ, ◌+◌, Bool, true, false, not, cond, List, [], ◌∷◌, ◌++◌, Some, None, String, string_bytes, length, nat_lt, if◌then◌else◌, ◌||◌, suc, position, refl, ap, ◌∙◌}
+use Rattle.std.proofs.Common.{◌≡◌, ℕ, ◌+◌, Bool, true, false, not, cond, List, [], ◌∷◌, ◌++◌, Some, None, String, string_bytes, length, nat_lt, if◌then◌else◌, ◌||◌, suc, position, refl, ap, ◌∙◌, take, get_or, slice_get, add-one}
+use Rattle.std.proofs.Math.Seq.{take-suc}
+use Rattle.std.proofs.lemmas.List.{map-append}
+use Rattle.std.proofs.lemmas.Option.{get_or_from_slice_get, slice_get_within}
 use Rattle.std.specs.List.{list_any, prefix_len}
 use Rattle.std.specs.Str.{bytes_eq}
 use Rattle.std.specs.String.{string_eq}
@@ -33,3 +36,10 @@ insert-names text texts = by (list_any (string_eq text) texts) (any-names text t
     by : (t : Bool) → t ≡ list_any (bytes_eq (string_bytes text)) (names_of texts) → names_of (if t then texts else texts ++ text ∷ []) ≡ with_binding (names_of texts) (string_bytes text)
     by true there = ap (λ t. if t then names_of texts else names_of texts ++ string_bytes text ∷ []) there
     by false there = last texts ∙ ap (λ t. if t then names_of texts else names_of texts ++ string_bytes text ∷ []) there
+
+pub names-take : (texts : List (String Global)) (i : ℕ) (text : String Global) → slice_get texts i ≡ Some text → names_of (take (i + 1) texts) ≡ names_of (take i texts) ++ string_bytes text ∷ []
+names-take texts i text e =
+    ap (λ n. names_of (take n texts)) (add-one i)
+    ∙ (ap names_of (take-suc texts i text (slice_get_within texts i text e))
+    ∙ (map-append string_bytes (take i texts) (get_or texts i text ∷ [])
+    ∙ ap (λ (x : String Global). names_of (take i texts) ++ string_bytes x ∷ []) (get_or_from_slice_get texts i text text e)))

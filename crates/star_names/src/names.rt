@@ -2,7 +2,7 @@
 ghost use Rattle.std.specs.Prelude.{◌≡◌, [], IfOk, length};
 ghost use Rattle.star_names.specs.Variables.{place, with_binding};
 
-use bz_base::{Mem, Txt};
+use bz_base::{Mem, Seq, Txt};
 use indexmap::IndexSet;
 use std::alloc::Global;
 use std::marker::Model;
@@ -53,5 +53,19 @@ impl Names {
         ensures { result ≡ place self.now name.now }
     {
         self.texts.get_index_of(name)
+    }
+
+    /// The names, each as a text of its own.
+    pub fn texts(&self, alloc: Global) -> Mem<Seq<Txt>>
+        ensures { IfOk result (λ texts. texts ≡ self.now) }
+    {
+        let mut texts = Vec::new(alloc);
+        'names: for place in 0..self.texts.len() {
+            let Some(name) = self.texts.get_index(place) else {
+                unreachable!();
+            };
+            texts.push(Txt::of(alloc, name.as_str())?)?;
+        }
+        Ok(Seq::of_vec(texts))
     }
 }

@@ -131,4 +131,4 @@ pub pair_meaning-out : (pair : BarePair) → pair_meaning pair ≡ pair_step (re
 unfolding meaning arg_meaning clause_meaning param_meaning pair_meaning
 pair_meaning-out pair = search (rules, the_lemmas)
 
-pub ruleset layers = (meaning-Name, meaning-Int, meaning-Text, meaning-List, meaning-Tuple, meaning-Dict, meaning-ListComp, meaning-DictComp, meaning-Bracketed, meaning-Unary, meaning-Binary, meaning-Cond, meaning-Lambda, meaning-Attr, meaning-Index, meaning-Slice, meaning-Call, arg_meaning-Positional, arg_meaning-Named, arg_meaning-Star, arg_meaning-DoubleStar, clause_meaning-For, clause_meaning-If, param_meaning-Required, param_meaning-Optional, param_meaning-Bare, param_meaning-Rest, param_meaning-Keywords, pair_meaning-out)
+pub ruleset part_layers = (arg_meaning-Positional, arg_meaning-Named, arg_meaning-Star, arg_meaning-DoubleStar, clause_meaning-For, clause_meaning-If, param_meaning-Required, param_meaning-Optional, param_meaning-Bare, param_meaning-Rest, param_meaning-Keywords, pair_meaning-out)

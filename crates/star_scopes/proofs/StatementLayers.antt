@@ -59,4 +59,4 @@ pub stmt_meaning-out : (statement : BareStmt) → stmt_meaning statement ≡ stm
 unfolding kind_meaning stmt_meaning
 stmt_meaning-out statement = search (rules, the_lemmas)
 
-pub ruleset statement_layers = (kind_meaning-Def, kind_meaning-If, kind_meaning-For, kind_meaning-Return, kind_meaning-Break, kind_meaning-Continue, kind_meaning-Pass, kind_meaning-Load, kind_meaning-Assign, kind_meaning-Augment, kind_meaning-Value, stmt_meaning-out)
+pub ruleset statement_lines = (stmt_meaning-out)

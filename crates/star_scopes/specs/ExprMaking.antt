@@ -63,13 +63,19 @@ module _ (free : Names) (scopes : List Names) where
     made ← pairs_made pairs
     pure (e.Dict made)
 
+  unfoldable pub more_clauses_made : List Names → List ClauseMeaning → Making (List Clause)
+  more_clauses_made inner clauses = each (map (λ clause. clause.clause free inner inner) clauses)
+
   -- the operand of the first `in` stands outside the comprehension
+  unfoldable pub some_clauses_made : List Names → ClauseMeaning → List ClauseMeaning → Making (List Clause)
+  some_clauses_made inner first more = do
+    made ← first.clause free inner scopes
+    others ← more_clauses_made inner more
+    pure (made ∷ others)
+
   unfoldable pub clauses_made : List Names → List ClauseMeaning → Making (List Clause)
   clauses_made inner [] = pure []
-  clauses_made inner (first ∷ more) = do
-    made ← first.clause free inner scopes
-    others ← each (map (λ clause. clause.clause free inner inner) more)
-    pure (made ∷ others)
+  clauses_made inner (first ∷ more) = some_clauses_made inner first more
 
   unfoldable pub list_comp_made : ExprMeaning → List ClauseMeaning → Making Expr
   list_comp_made item clauses =
@@ -177,15 +183,25 @@ target_made (BareExpr-F.Tuple targets) free scopes = many_target free scopes tar
 target_made (BareExpr-F.List targets) free scopes = many_target free scopes targets
 target_made _ free scopes = pure (target_tree.Many [])
 
+unfoldable pub named_arg_made : Names → List Names → List ℕ → ExprMeaning → Making Arg
+named_arg_made free scopes name value = do
+  made ← value.expr free scopes
+  pure (arg_tree.Named name made)
+
+unfoldable pub optional_made : Names → List Names → List ℕ → ExprMeaning → Making Param
+optional_made free scopes name default = do
+  made ← default.expr free scopes
+  pure (param_tree.Optional name made)
+
 abbrev pub arg_made : BareArg-F ArgMeaning ClauseMeaning ExprMeaning ParamMeaning PairMeaning → Names → List Names → Making Arg
 arg_made (BareArg-F.Positional value) free scopes = value.expr free scopes >>= (λ made. pure (arg_tree.Positional made))
-arg_made (BareArg-F.Named name value) free scopes = value.expr free scopes >>= (λ made. pure (arg_tree.Named name made))
+arg_made (BareArg-F.Named name value) free scopes = named_arg_made free scopes name value
 arg_made (BareArg-F.Star value line) free scopes = value.expr free scopes >>= (λ made. pure (arg_tree.Star made))
 arg_made (BareArg-F.DoubleStar value line) free scopes = value.expr free scopes >>= (λ made. pure (arg_tree.DoubleStar made))
 
 abbrev pub param_made : ParamLayer → Names → List Names → Making Param
 param_made (BareParam-F.Required name) free scopes = pure (param_tree.Required name)
-param_made (BareParam-F.Optional name default) free scopes = default.expr free scopes >>= (λ made. pure (param_tree.Optional name made))
+param_made (BareParam-F.Optional name default) free scopes = optional_made free scopes name default
 param_made (BareParam-F.Bare line) free scopes = pure param_tree.Bare
 param_made (BareParam-F.Rest name line) free scopes = pure (param_tree.Rest name)
 param_made (BareParam-F.Keywords name line) free scopes = pure (param_tree.Keywords name)

@@ -5,6 +5,7 @@ pub mod ExprMeaning
 pub mod ExprUses
 pub mod Files
 pub mod FreeNames
+pub mod Maker
 pub mod Making
 pub mod Meanings
 pub mod Scopes

@@ -28,6 +28,10 @@ each (making ∷ more) = do
   others ← each more
   pure (a ∷ others)
 
+-- some values, made before others
+abbrev pub prepended : {A : Type 0} → List A → List A × Lists → List A × Lists
+prepended made others = (made ++ others.0, others.1)
+
 -- a function that has begun, at its place
 abbrev pub begun : FnCode
 begun = record { name = None; params = []; body = body.Block []; line = 0 }

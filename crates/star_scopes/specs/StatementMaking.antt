@@ -29,6 +29,11 @@ def_code name params body line = record { name = Some name; params = params; bod
 abbrev pub load_of : List ℕ → List BareLoadName → ℕ → Load
 load_of file names line = record { file = file; names = map (λ (loaded : BareLoadName). loaded.name) names; line = line }
 
+unfoldable pub load_made : List ℕ → List BareLoadName → ℕ → Making StmtKind
+load_made file names line = do
+  place ← load (load_of file names line)
+  pure (st.Load place)
+
 module _ (free : Names) (scopes : List Names) where
   unfoldable pub body_made : List StmtMeaning → Making (List Stmt)
   body_made body = each (map (λ statement. statement.stmt free scopes) body)
@@ -52,11 +57,6 @@ module _ (free : Names) (scopes : List Names) where
   return_made (Some value) = do
     made ← (meaning value).expr free scopes
     pure (st.Return (Some made))
-
-  unfoldable pub load_made : List ℕ → List BareLoadName → ℕ → Making StmtKind
-  load_made file names line = do
-    place ← load (load_of file names line)
-    pure (st.Load place)
 
   unfoldable pub assign_made : BareExpr → BareExpr → Making StmtKind
   assign_made to value = do
@@ -92,7 +92,7 @@ kind_made (BareStmtKind-F.Return value) line free scopes = return_made free scop
 kind_made BareStmtKind-F.Break line free scopes = pure st.Break
 kind_made BareStmtKind-F.Continue line free scopes = pure st.Continue
 kind_made BareStmtKind-F.Pass line free scopes = pure st.Pass
-kind_made (BareStmtKind-F.Load file names) line free scopes = load_made free scopes file names line
+kind_made (BareStmtKind-F.Load file names) line free scopes = load_made file names line
 kind_made (BareStmtKind-F.Assign to value) line free scopes = assign_made free scopes to value
 kind_made (BareStmtKind-F.Augment place op value) line free scopes = augment_made free scopes place op value
 kind_made (BareStmtKind-F.Value value) line free scopes = value_made free scopes value

@@ -155,7 +155,7 @@ fn pairs_use(
 }
 
 #[cycle(expression_uses)]
-#[tactic(auto, using(crate::proofs::Layers::layers))]
+#[tactic(auto, using(crate::proofs::Layers::part_layers))]
 fn pair_uses(
     alloc: Global,
     dialect: Dialect,
@@ -192,7 +192,7 @@ fn args_use(
 }
 
 #[cycle(expression_uses)]
-#[tactic(auto, using(crate::proofs::Layers::layers))]
+#[tactic(auto, using(crate::proofs::Layers::part_layers))]
 fn arg_uses(
     alloc: Global,
     dialect: Dialect,
@@ -234,7 +234,7 @@ pub(crate) fn params_use(
 }
 
 #[cycle(expression_uses)]
-#[tactic(auto, using(crate::proofs::Layers::layers))]
+#[tactic(auto, using(crate::proofs::Layers::part_layers))]
 fn param_uses(
     alloc: Global,
     dialect: Dialect,
@@ -274,7 +274,7 @@ fn maybe_uses(
 
 #[cycle(expression_uses)]
 #[tactic(auto, unfolding(crate::specs::ExprUses::two_use))]
-fn two_use(
+pub(crate) fn two_use(
     alloc: Global,
     dialect: Dialect,
     scopes: &mut Scopes,
@@ -409,7 +409,7 @@ fn clauses_use(
 }
 
 #[cycle(expression_uses)]
-#[tactic(auto, using(crate::proofs::Layers::layers))]
+#[tactic(auto, using(crate::proofs::Layers::part_layers))]
 fn first_clause_uses(
     alloc: Global,
     dialect: Dialect,
@@ -474,7 +474,7 @@ fn more_clauses_use(
 }
 
 #[cycle(expression_uses)]
-#[tactic(auto, using(crate::proofs::Layers::layers), unfolding(crate::specs::ExprUses::two_use))]
+#[tactic(auto, using(crate::proofs::Layers::part_layers), unfolding(crate::specs::ExprUses::two_use))]
 fn clause_uses(
     alloc: Global,
     dialect: Dialect,
