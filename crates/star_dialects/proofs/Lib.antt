@@ -1,1 +1,2 @@
 pub mod FirstAmong
+pub mod Walked

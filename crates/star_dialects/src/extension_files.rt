@@ -1,12 +1,12 @@
 //! Extensions' files: no `if`, no `for` and no second binding of a name at top level. The names bound so far go from place to place, in the order of the text; a place that is refused ends the walk.
-ghost use Rattle.std.specs.Prelude.{◌≡◌, IfOk, Err, map};
+ghost use Rattle.std.specs.Prelude.{◌≡◌, IfOk, Err, [], ◌∷◌, map};
 ghost use Rattle.bz_base.specs.Answers.{Gives};
 ghost use Rattle.star_dialects.specs.ExtensionFiles as spec;
 ghost use Rattle.star_dialects.specs.Forms.{form_on};
 
 use crate::forms::{Form, Refused};
 use bz_base::{May, Mem, Miss, OutOfMemory, Txt};
-use star_grammar::{BareExpr, BareLoadName, BareName, BareStmt, BareStmtKind};
+use star_grammar::{BareExpr, BareLoadName, BareStmt, BareStmtKind};
 use star_names::Names;
 use std::alloc::Global;
 
@@ -20,6 +20,7 @@ pub fn refused_in_bzl(alloc: Global, body: &[BareStmt]) -> Mem<Option<Refused>>
     }
 }
 
+#[tactic(auto, using(crate::proofs::Walked::walks))]
 fn with_statements(alloc: Global, body: &[BareStmt], names: Names) -> May<Names, Refused>
     ensures { Gives (spec.walked names (spec.body_places body.now)) result }
 {
@@ -55,7 +56,7 @@ fn with_statement(alloc: Global, statement: &BareStmt, names: Names) -> May<Name
             over: _,
             body: _,
         } => refused(line, Form::For),
-        BareStmtKind::Load { file: _, names: loaded } => with_loaded(alloc, loaded.as_slice(), names),
+        BareStmtKind::Load { file: _, names: loaded } => with_loaded(alloc, loaded.items(), names),
         BareStmtKind::Assign { to, value: _ } => with_target(alloc, to, names),
         BareStmtKind::Augment {
             place,
@@ -73,7 +74,7 @@ fn refused(line: u64, form: Form) -> May<Names, Refused>
 }
 
 fn with_name(alloc: Global, name: &Txt, line: u64, names: Names) -> May<Names, Refused>
-    ensures { Gives (spec.taken names (spec.binding name.now line)) result }
+    ensures { Gives (spec.walked names (spec.binding name.now line ∷ [])) result }
 {
     match names.place(name.as_str()) {
         Some(_) => refused(line, Form::Rebinding),
@@ -81,6 +82,7 @@ fn with_name(alloc: Global, name: &Txt, line: u64, names: Names) -> May<Names, R
     }
 }
 
+#[tactic(auto, using(crate::proofs::Walked::walks))]
 fn with_loaded(alloc: Global, loaded: &[BareLoadName], names: Names) -> May<Names, Refused>
     ensures { Gives (spec.walked names (map spec.load_place loaded.now)) result }
 {
