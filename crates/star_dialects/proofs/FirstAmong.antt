@@ -1,5 +1,5 @@
 -- The first among items, one by one.
-use Rattle.std.proofs.Common.{◌≡◌, ℕ, suc, ◌+◌, ◌<◌, List, [], ◌∷◌, Option, Some, None, length, get_or, drop, map, refl, ap, sym, ◌∙◌, add-one, drop-cons}
+use Rattle.std.proofs.Common.{◌≡◌, ℕ, suc, ◌+◌, ◌<◌, List, ◌∷◌, Option, length, get_or, drop, map, ap, sym, ◌∙◌, add-one, drop-cons}
 use Rattle.std.specs.Option.{option_or}
 use Rattle.star_dialects.specs.Forms.{first_among}
 use Rattle.star_dialects.specs.declared.forms.Refused.{Refused}

@@ -1,19 +1,16 @@
 -- A walk over places, in parts.
-use Rattle.std.proofs.Common.{◌≡◌, ℕ, suc, ◌+◌, ◌<◌, List, [], ◌∷◌, ◌++◌, Result, Ok, Err, length, get_or, drop, map, refl, ap, subst, sym, ◌∙◌, add-one, drop-cons}
+use Rattle.std.proofs.Common.{◌≡◌, ℕ, suc, ◌+◌, ◌<◌, List, [], ◌∷◌, ◌++◌, Result, Ok, Err, length, get_or, drop, map, refl, ap, sym, ◌∙◌, add-one, drop-cons, rules}
 use Rattle.bz_base.specs.Answers.{Gives}
 use Rattle.bz_base.specs.declared.memory.Miss.{Miss}
 use Rattle.bz_base.specs.declared.memory.Miss.TheVariants.{OutOfMemory, Because}
+use Rattle.star_grammar.specs.declared.bare_expressions.BareName.{BareName}
+use Rattle.star_grammar.specs.declared.bare_expressions.BareParam.{BareParam}
+use Rattle.star_grammar.specs.declared.bare_statements.BareStmt.{BareStmt}
+use Rattle.star_grammar.specs.declared.bare_statements.BareStmtKind as kind
+use Rattle.star_grammar.specs.declared.bare_statements.BareStmtKind.{out-BareStmtKind, the_lemmas}
 use Rattle.star_names.specs.Variables.{Names}
-use Rattle.star_dialects.specs.ExtensionFiles.{Place, all_places, followed, taken, walked}
+use Rattle.star_dialects.specs.ExtensionFiles.{Place, all_places, binding, followed, kind_places, taken, walked}
 use Rattle.star_dialects.specs.declared.forms.Refused.{Refused}
-
-pub followed-none : (names : Result Names Refused) → followed names (λ more. Ok more) ≡ names
-followed-none (Ok names) = refl
-followed-none (Err refused) = refl
-
--- one place
-pub Gives-one : (names : Names) (at : Place) (result : Result Names (Miss Refused)) → Gives (taken names at) result → Gives (walked names (at ∷ [])) result
-Gives-one names at result gives = let P : Result Names Refused → Type 0 = λ r. Gives r result in subst P (sym (followed-none (taken names at))) gives
 
 followed-walked : (names : Result Names Refused) (places others : List Place)
     → ((more : Names) → walked more (places ++ others) ≡ followed (walked more places) (λ last. walked last others))
@@ -34,7 +31,13 @@ walked-drop names part xs i x below is =
     ∙ (walked-append names (part x) (all_places (map part (drop (suc i) xs)))
     ∙ ap (λ n. followed (walked names (part x)) (λ more. walked more (all_places (map part (drop n xs))))) (sym (add-one i))))
 
-pub ruleset walks = (followed-none, walked-append)
+-- a `def` binds its name
+pub kind_places-Def : (line : ℕ) (name : BareName) (params : List BareParam) (body : List BareStmt) → kind_places line (out-BareStmtKind (kind.Def name params body)) ≡ binding name.name line ∷ []
+kind_places-Def line name params body = search (rules, the_lemmas)
+
+pub ruleset def_places = (kind_places-Def)
+
+pub ruleset walks = (walked-append)
 
 -- the walk goes on behind an item whose places were all taken
 pub walked-next : {A : Type 0} {whole : Result Names Refused} (names more : Names) (part : A → List Place) (xs : List A) (i : ℕ) (x : A) → i < length xs → x ≡ get_or xs i x

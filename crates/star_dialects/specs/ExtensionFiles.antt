@@ -7,7 +7,7 @@ use Rattle.star_grammar.specs.declared.bare_expressions.BareExpr.{BareExpr, fold
 use Rattle.star_grammar.specs.declared.bare_expressions.BareName.{BareName}
 use Rattle.star_grammar.specs.declared.bare_statements.BareLoadName.{BareLoadName}
 use Rattle.star_grammar.specs.declared.bare_statements.BareStmt.{BareStmt, out-BareStmt}
-use Rattle.star_grammar.specs.declared.bare_statements.BareStmtKind.{BareStmtKind, out-BareStmtKind}
+use Rattle.star_grammar.specs.declared.bare_statements.BareStmtKind.{out-BareStmtKind}
 use Rattle.star_grammar.specs.declared.bare_statements.BareStmtKind.TheOpen.{BareStmtKind-F}
 use Rattle.star_names.specs.Variables.{Names, place, with_binding}
 use Rattle.star_dialects.specs.declared.forms.Form.TheVariants as form

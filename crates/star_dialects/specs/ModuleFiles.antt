@@ -1,7 +1,7 @@
 -- What a MODULE.bazel file may not have: Bazel, "MODULE.bazel files". A form is refused where it begins, so that nothing inside it matters.
 use Rattle.std.specs.Prelude.{ℕ, Bool, true, false, if◌then◌else◌, List, Option, Some, None}
 use Rattle.std.specs.Option.{option_or}
-use Rattle.star_grammar.specs.declared.bare_expressions.BareArg.TheOpen.{BareArg-F, BareClause-F, BareExpr-F, BareParam-F, BarePair-F}
+use Rattle.star_grammar.specs.declared.bare_expressions.BareArg.TheOpen.{BareArg-F, BareClause-F, BareExpr-F, BarePair-F}
 use Rattle.star_grammar.specs.declared.bare_expressions.BareArg.{BareArg, fold-BareArg}
 use Rattle.star_grammar.specs.declared.bare_expressions.BareClause.{BareClause, fold-BareClause}
 use Rattle.star_grammar.specs.declared.bare_expressions.BareExpr.{BareExpr, fold-BareExpr}
@@ -18,9 +18,9 @@ pub record Seen : Type 0 where
   pub is_display : Bool
   pub first : Option Refused
 
--- no dictionary display
-abbrev pub other : Option Refused → Seen
-other first = record { is_display = false; first = first }
+-- an expression that is no dictionary display
+abbrev pub plain : Option Refused → Seen
+plain first = record { is_display = false; first = first }
 
 abbrev pub first_in_items : List Seen → Option Refused
 first_in_items = first_among (λ item. item.first)
@@ -52,27 +52,27 @@ pair_step pair = option_or pair.key.first pair.value.first
 
 -- round brackets change nothing
 abbrev pub expr_step : BareExpr-F (Option Refused) (Option Refused) Seen ℕ (Option Refused) → Seen
-expr_step (BareExpr-F.Name name) = other None
-expr_step (BareExpr-F.Int value) = other None
-expr_step (BareExpr-F.Text text) = other None
-expr_step (BareExpr-F.List items) = other (first_in_items items)
-expr_step (BareExpr-F.Tuple items) = other (first_in_items items)
+expr_step (BareExpr-F.Name name) = plain None
+expr_step (BareExpr-F.Int value) = plain None
+expr_step (BareExpr-F.Text text) = plain None
+expr_step (BareExpr-F.List items) = plain (first_in_items items)
+expr_step (BareExpr-F.Tuple items) = plain (first_in_items items)
 expr_step (BareExpr-F.Dict pairs) = record { is_display = true; first = first_in_parts pairs }
-expr_step (BareExpr-F.ListComp item clauses) = other (option_or item.first (first_in_parts clauses))
+expr_step (BareExpr-F.ListComp item clauses) = plain (option_or item.first (first_in_parts clauses))
 expr_step (BareExpr-F.DictComp key value clauses) =
-    other (option_or key.first (option_or value.first (first_in_parts clauses)))
+    plain (option_or key.first (option_or value.first (first_in_parts clauses)))
 expr_step (BareExpr-F.Bracketed inside) = inside
-expr_step (BareExpr-F.Unary op operand) = other operand.first
-expr_step (BareExpr-F.Binary op left right) = other (option_or left.first right.first)
+expr_step (BareExpr-F.Unary op operand) = plain operand.first
+expr_step (BareExpr-F.Binary op left right) = plain (option_or left.first right.first)
 expr_step (BareExpr-F.Cond test chosen otherwise) =
-    other (option_or chosen.first (option_or test.first otherwise.first))
-expr_step (BareExpr-F.Lambda params body line) = other (Some (form_on line form.Lambda))
-expr_step (BareExpr-F.Attr container name) = other container.first
-expr_step (BareExpr-F.Index container at) = other (option_or container.first at.first)
+    plain (option_or chosen.first (option_or test.first otherwise.first))
+expr_step (BareExpr-F.Lambda params body line) = plain (Some (form_on line form.Lambda))
+expr_step (BareExpr-F.Attr container name) = plain container.first
+expr_step (BareExpr-F.Index container at) = plain (option_or container.first at.first)
 expr_step (BareExpr-F.Slice container begin end step) =
-    other
+    plain
     (option_or container.first (option_or (first_in_bound begin) (option_or (first_in_bound end) (first_in_bound step))))
-expr_step (BareExpr-F.Call function args) = other (option_or function.first (first_in_parts args))
+expr_step (BareExpr-F.Call function args) = plain (option_or function.first (first_in_parts args))
 
 abbrev pub seen : BareExpr → Seen
 seen = fold-BareExpr (Option Refused) (Option Refused) Seen ℕ (Option Refused) arg_step clause_step expr_step (λ param. 0) pair_step

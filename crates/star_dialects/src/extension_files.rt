@@ -36,6 +36,7 @@ fn with_statements(alloc: Global, body: &[BareStmt], names: Names) -> May<Names,
     Ok(names)
 }
 
+#[tactic(auto, using(crate::proofs::Walked::def_places))]
 fn with_statement(alloc: Global, statement: &BareStmt, names: Names) -> May<Names, Refused>
     ensures { Gives (spec.walked names (spec.statement_places statement.now)) result }
 {
@@ -56,7 +57,10 @@ fn with_statement(alloc: Global, statement: &BareStmt, names: Names) -> May<Name
             over: _,
             body: _,
         } => refused(line, Form::For),
-        BareStmtKind::Load { file: _, names: loaded } => with_loaded(alloc, loaded.items(), names),
+        BareStmtKind::Load {
+            file: _,
+            names: loaded,
+        } => with_loaded(alloc, loaded.items(), names),
         BareStmtKind::Assign { to, value: _ } => with_target(alloc, to, names),
         BareStmtKind::Augment {
             place,
@@ -123,4 +127,39 @@ fn with_targets(alloc: Global, targets: &[BareExpr], names: Names) -> May<Names,
         };
     }
     Ok(names)
+}
+
+#[cfg(test)]
+mod tests {
+    use super::*;
+    use sqlite_items::Items;
+    use star_grammar::BareName;
+    use std::test::Fail;
+
+    /// `a, SECOND = 1`, the second name on line 2
+    fn pair(alloc: Global, second: &str) -> Mem<Items<BareStmt>> {
+        let mut targets = Items::new(alloc);
+        let name = Txt::of(alloc, "a")?;
+        targets.push(BareExpr::Name(BareName { name, line: 1 }))?;
+        let name = Txt::of(alloc, second)?;
+        targets.push(BareExpr::Name(BareName { name, line: 2 }))?;
+        let to = BareExpr::Tuple(targets);
+        let value = BareExpr::Int(1);
+        let kind = BareStmtKind::Assign { to, value };
+        let mut body = Items::new(alloc);
+        body.push(BareStmt { line: 1, kind })?;
+        Ok(body)
+    }
+
+    #[test]
+    fn a_name_is_bound_once(rt: HostRuntime) -> Result<(), Fail> {
+        let alloc = rt.alloc();
+        let body = pair(alloc, "b")?;
+        assert_eq!(rt; refused_in_bzl(alloc, body.as_slice())?, None);
+        let body = pair(alloc, "a")?;
+        let form = Form::Rebinding;
+        let refused = refused_in_bzl(alloc, body.as_slice())?;
+        assert_eq!(rt; refused, Some(Refused { line: 2, form }));
+        Ok(())
+    }
 }

@@ -89,8 +89,7 @@ fn first_in(expression: &BareExpr) -> Option<Refused>
             key,
             value,
             clauses,
-        } => first_in(key.get())
-            .or(first_in(value.get()).or(first_in_clauses(clauses.as_slice()))),
+        } => first_in(key.get()).or(first_in(value.get()).or(first_in_clauses(clauses.as_slice()))),
         BareExpr::Bracketed(inside) => first_in(inside.get()),
         BareExpr::Unary { op: _, of } => first_in(of.get()),
         BareExpr::Binary { op: _, left, right } => first_in(left.get()).or(first_in(right.get())),
@@ -109,8 +108,9 @@ fn first_in(expression: &BareExpr) -> Option<Refused>
             begin,
             end,
             step,
-        } => first_in(of.get())
-            .or(first_in_bound(begin).or(first_in_bound(end).or(first_in_bound(step)))),
+        } => first_in(of.get()).or(first_in_bound(begin).or(first_in_bound(end).or(first_in_bound(
+            step,
+        )))),
         BareExpr::Call { function, args } => {
             first_in(function.get()).or(first_in_args(args.as_slice()))
         }
@@ -215,5 +215,48 @@ fn is_display(expression: &BareExpr) -> bool
         BareExpr::Dict(_) => true,
         BareExpr::Bracketed(inside) => is_display(inside.get()),
         _ => false,
+    }
+}
+
+#[cfg(test)]
+mod tests {
+    use super::*;
+    use bz_base::{Mem, Seq, Txt};
+    use sqlite_items::Items;
+    use star_grammar::BareName;
+    use std::alloc::Global;
+    use std::test::Fail;
+
+    /// `f(**VALUE)` on line 1
+    fn call(alloc: Global, value: BareExpr) -> Mem<BareStmt> {
+        let name = Txt::of(alloc, "f")?;
+        let function = Boxed::new(alloc, BareExpr::Name(BareName { name, line: 1 }))?;
+        let mut args = Items::new(alloc);
+        args.push(BareArg::DoubleStar { value, line: 1 })?;
+        let kind = BareStmtKind::Value(BareExpr::Call { function, args });
+        Ok(BareStmt { line: 1, kind })
+    }
+
+    #[test]
+    fn a_display_is_allowed_and_a_load_is_not(rt: HostRuntime) -> Result<(), Fail> {
+        let alloc = rt.alloc();
+        let mut body = Items::new(alloc);
+        body.push(call(alloc, BareExpr::Dict(Items::new(alloc)))?)?;
+        assert_eq!(rt; refused_in_module(body.as_slice()), None);
+        let file = Txt::of(alloc, ":a.bzl")?;
+        let names = Seq::new(alloc);
+        let kind = BareStmtKind::Load { file, names };
+        body.push(BareStmt { line: 2, kind })?;
+        let form = Form::Load;
+        assert_eq!(rt;
+            refused_in_module(body.as_slice()),
+            Some(Refused { line: 2, form })
+        );
+        body.push(call(alloc, BareExpr::Int(1))?)?;
+        assert_eq!(rt;
+            refused_in_module(body.as_slice()),
+            Some(Refused { line: 2, form })
+        );
+        Ok(())
     }
 }

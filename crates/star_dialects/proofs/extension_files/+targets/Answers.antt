@@ -1,4 +1,3 @@
-use Rattle.std.proofs.Common.{arith}
 use Rattle.star_dialects.specs.ExtensionFiles.{target_places}
 use Rattle.star_dialects.proofs.Walked.{walked-next, walked-stopped}
 use Rattle.star_dialects.proofs.extension_files.+targets.Goals as goal
