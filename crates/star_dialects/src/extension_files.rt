@@ -10,6 +10,7 @@ use star_grammar::{BareExpr, BareLoadName, BareStmt, BareStmtKind};
 use star_names::Names;
 use std::alloc::Global;
 
+/// The first form of an extension's file that is refused, in the order of its text.
 pub fn refused_in_bzl(alloc: Global, body: &[BareStmt]) -> Mem<Option<Refused>>
     ensures { IfOk result (λ refused. refused ≡ spec.first_in_bzl body.now) }
 {

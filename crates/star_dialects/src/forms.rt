@@ -22,6 +22,7 @@ pub struct Refused {
 }
 
 impl Form {
+    /// As it is told.
     pub fn text(self) -> &'static str
         ensures { result.now ≡ form_text self }
     {

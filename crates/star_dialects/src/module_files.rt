@@ -8,6 +8,7 @@ use crate::forms::{Form, Refused};
 use sqlite_items::Boxed;
 use star_grammar::{BareArg, BareClause, BareExpr, BarePair, BareStmt, BareStmtKind};
 
+/// The first form of a MODULE.bazel file that is refused, in the order of its text.
 pub fn refused_in_module(body: &[BareStmt]) -> Option<Refused>
     ensures { result ≡ spec.first_in_module body.now }
 {
@@ -108,9 +109,10 @@ fn first_in(expression: &BareExpr) -> Option<Refused>
             begin,
             end,
             step,
-        } => first_in(of.get()).or(first_in_bound(begin).or(first_in_bound(end).or(first_in_bound(
-            step,
-        )))),
+        } => {
+            let ends = first_in_bound(end).or(first_in_bound(step));
+            first_in(of.get()).or(first_in_bound(begin).or(ends))
+        }
         BareExpr::Call { function, args } => {
             first_in(function.get()).or(first_in_args(args.as_slice()))
         }
