@@ -1,15 +1,10 @@
 -- A walk over places, in parts.
-use Rattle.std.proofs.Common.{◌≡◌, ℕ, suc, ◌+◌, ◌<◌, List, [], ◌∷◌, ◌++◌, Result, Ok, Err, length, get_or, drop, map, refl, ap, sym, ◌∙◌, add-one, drop-cons, rules}
+use Rattle.std.proofs.Common.{◌≡◌, ℕ, suc, ◌+◌, ◌<◌, List, [], ◌∷◌, ◌++◌, Result, Ok, Err, length, get_or, drop, map, refl, ap, sym, ◌∙◌, add-one, drop-cons}
 use Rattle.bz_base.specs.Answers.{Gives}
 use Rattle.bz_base.specs.declared.memory.Miss.{Miss}
 use Rattle.bz_base.specs.declared.memory.Miss.TheVariants.{OutOfMemory, Because}
-use Rattle.star_grammar.specs.declared.bare_expressions.BareName.{BareName}
-use Rattle.star_grammar.specs.declared.bare_expressions.BareParam.{BareParam}
-use Rattle.star_grammar.specs.declared.bare_statements.BareStmt.{BareStmt}
-use Rattle.star_grammar.specs.declared.bare_statements.BareStmtKind as kind
-use Rattle.star_grammar.specs.declared.bare_statements.BareStmtKind.{out-BareStmtKind, the_lemmas}
 use Rattle.star_names.specs.Variables.{Names}
-use Rattle.star_dialects.specs.ExtensionFiles.{Place, all_places, binding, followed, kind_places, taken, walked}
+use Rattle.star_dialects.specs.ExtensionFiles.{Place, all_places, followed, taken, walked}
 use Rattle.star_dialects.specs.declared.forms.Refused.{Refused}
 
 followed-walked : (names : Result Names Refused) (places others : List Place)
@@ -30,12 +25,6 @@ walked-drop names part xs i x below is =
     ∙ (ap (λ y. walked names (part y ++ all_places (map part (drop (suc i) xs)))) (sym is)
     ∙ (walked-append names (part x) (all_places (map part (drop (suc i) xs)))
     ∙ ap (λ n. followed (walked names (part x)) (λ more. walked more (all_places (map part (drop n xs))))) (sym (add-one i))))
-
--- a `def` binds its name
-pub kind_places-Def : (line : ℕ) (name : BareName) (params : List BareParam) (body : List BareStmt) → kind_places line (out-BareStmtKind (kind.Def name params body)) ≡ binding name.name line ∷ []
-kind_places-Def line name params body = search (rules, the_lemmas)
-
-pub ruleset def_places = (kind_places-Def)
 
 pub ruleset walks = (walked-append)
 

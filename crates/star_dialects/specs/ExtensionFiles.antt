@@ -12,8 +12,7 @@ use Rattle.star_grammar.specs.declared.bare_statements.BareStmtKind.TheOpen.{Bar
 use Rattle.star_names.specs.Variables.{Names, place, with_binding}
 use Rattle.star_dialects.specs.declared.forms.Form.TheVariants as form
 use Rattle.star_dialects.specs.declared.forms.Refused.{Refused}
-use Rattle.star_dialects.specs.Forms.{form_on}
-use Rattle.star_dialects.specs.ModuleFiles.{StmtKindLayer}
+use Rattle.star_dialects.specs.Forms.{StmtKindLayer, form_on}
 
 -- a place of the top level: a name that is bound on a line, or a form that is refused wherever it stands
 pub data Place : Type 0 where

@@ -1,6 +1,9 @@
 -- The forms of Starlark that a dialect may refuse, as they are told: Bazel, ".bzl files" and "MODULE.bazel files".
 use Rattle.std.specs.Prelude.{ℕ, List, [], ◌∷◌, Option, None, codes}
 use Rattle.std.specs.Option.{option_or}
+use Rattle.star_grammar.specs.declared.bare_statements.BareStmt.{BareStmt}
+use Rattle.star_grammar.specs.declared.bare_statements.BareStmtKind.{BareStmtKind}
+use Rattle.star_grammar.specs.declared.bare_statements.BareStmtKind.TheOpen.{BareStmtKind-F}
 use Rattle.star_dialects.specs.declared.forms.Form.{Form}
 use Rattle.star_dialects.specs.declared.forms.Form.TheVariants as form
 use Rattle.star_dialects.specs.declared.forms.Refused.{Refused}
@@ -23,3 +26,7 @@ form_on line what = record { line = line; form = what }
 abbrev pub first_among : {A : Type 0} → (A → Option Refused) → List A → Option Refused
 first_among of [] = None
 first_among of (one ∷ more) = option_or (of one) (first_among of more)
+
+-- a statement's kind, opened once
+abbrev pub StmtKindLayer : Type 0
+StmtKindLayer = BareStmtKind-F BareStmtKind BareStmt

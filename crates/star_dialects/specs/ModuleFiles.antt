@@ -7,11 +7,11 @@ use Rattle.star_grammar.specs.declared.bare_expressions.BareClause.{BareClause, 
 use Rattle.star_grammar.specs.declared.bare_expressions.BareExpr.{BareExpr, fold-BareExpr}
 use Rattle.star_grammar.specs.declared.bare_expressions.BarePair.{BarePair, fold-BarePair}
 use Rattle.star_grammar.specs.declared.bare_statements.BareStmt.{BareStmt, out-BareStmt}
-use Rattle.star_grammar.specs.declared.bare_statements.BareStmtKind.{BareStmtKind, out-BareStmtKind}
+use Rattle.star_grammar.specs.declared.bare_statements.BareStmtKind.{out-BareStmtKind}
 use Rattle.star_grammar.specs.declared.bare_statements.BareStmtKind.TheOpen.{BareStmtKind-F}
 use Rattle.star_dialects.specs.declared.forms.Form.TheVariants as form
 use Rattle.star_dialects.specs.declared.forms.Refused.{Refused}
-use Rattle.star_dialects.specs.Forms.{first_among, form_on}
+use Rattle.star_dialects.specs.Forms.{StmtKindLayer, first_among, form_on}
 
 -- an expression: whether it is a dictionary display without a comprehension, and the first form in it that is refused
 pub record Seen : Type 0 where
@@ -87,9 +87,6 @@ abbrev pub first_in_pair : BarePair → Option Refused
 first_in_pair = fold-BarePair (Option Refused) (Option Refused) Seen ℕ (Option Refused) arg_step clause_step expr_step (λ param. 0) pair_step
 
 -- ---- statements
-
-abbrev pub StmtKindLayer : Type 0
-StmtKindLayer = BareStmtKind-F BareStmtKind BareStmt
 
 -- the value of a `return`, which may be left out
 abbrev pub first_in_returned : Option BareExpr → Option Refused

@@ -37,7 +37,7 @@ fn with_statements(alloc: Global, body: &[BareStmt], names: Names) -> May<Names,
     Ok(names)
 }
 
-#[tactic(auto, using(crate::proofs::Walked::def_places))]
+#[tactic(auto, using(crate::proofs::StatementPlaces::statement_kinds))]
 fn with_statement(alloc: Global, statement: &BareStmt, names: Names) -> May<Names, Refused>
     ensures { Gives (spec.walked names (spec.statement_places statement.now)) result }
 {
