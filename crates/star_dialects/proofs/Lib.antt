@@ -1,0 +1,3 @@
+pub mod FirstAmong
+pub mod StatementPlaces
+pub mod Walked

@@ -1,0 +1,3 @@
+pub mod ExtensionFiles
+pub mod Forms
+pub mod ModuleFiles
