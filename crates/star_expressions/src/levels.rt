@@ -264,10 +264,10 @@ impl<F: Fn(Global, &mut Cursor<'_>, usize, Level) -> May<(BareExpr, usize), NoTr
         deep(BareExpr::Lambda { params, body, line }, depth.max(own))
     }
 
-    #[tactic(auto, unfolding(star_grammar::specs::ExpressionReading::test))]
-    fn test(&self, symbols: &mut Cursor<'_>) -> May<(BareExpr, usize), NoTree>
+    #[tactic(auto, unfolding(star_grammar::specs::ExpressionReading::any_test))]
+    fn any_test(&self, symbols: &mut Cursor<'_>) -> May<(BareExpr, usize), NoTree>
         requires { Nests self.now.nesting (F.pre self.now.nested) (F.post self.now.nested) }
-        ensures { Reads (spec.test (reads self.now.nesting) symbols.old.rest.now) result symbols.new.rest.now }
+        ensures { Reads (spec.any_test (reads self.now.nesting) symbols.old.rest.now) result symbols.new.rest.now }
     {
         let line = symbols.line();
         if symbols.eat(Sign::Lambda) {
@@ -291,7 +291,7 @@ impl<F: Fn(Global, &mut Cursor<'_>, usize, Level) -> May<(BareExpr, usize), NoTr
             Level::Unary => self.unary(symbols),
             Level::Negation => self.negation(symbols),
             Level::Disjunction => self.disjunction(symbols),
-            Level::Test => self.test(symbols),
+            Level::Test => self.any_test(symbols),
         }
     }
 }

@@ -427,8 +427,8 @@ module _ (nested : Level → Reader Tree) (Nested : Level → Rule Tree) (nests 
       (chain-complete 6 7 8 (omega arith) (reading.negation nested) (g.Negation Nested) negation-complete (shrinks.Negation-shrinks Nested nests.shrinks) operator-and)
       (shrinks.Conjunction-shrinks Nested nests.shrinks) operator-or
 
-  test-complete : Complete (Ends 10) (reading.test nested) (g.Test Nested)
-  unfolding reading.test reading.plain_test reading.conditional reading.lambda same_sign
+  test-complete : Complete (Ends 10) (reading.any_test nested) (g.Test Nested)
+  unfolding reading.any_test reading.plain_test reading.conditional reading.lambda same_sign
   test-complete i a r (g.Test.plain so) stops = rw (unopened s.Lambda 2 (omega arith) i (opens.Disjunction-opens Nested i a r so)) (then-is _ (disjunction-complete i a r so (omega arith)) (rw (unforced s.If 10 (omega arith) r stops) refl))
   test-complete i a r (g.Test.cond {j} {k} {l} {m} {then = chosen} {test} {other} so also more known) stops =
       rw (unopened s.Lambda 2 (omega arith) i (opens.Disjunction-opens Nested i chosen _ so))

@@ -349,8 +349,8 @@ module _ (nested : Level → Reader Tree) (Nested : Level → Rule Tree) (nested
   unfolding reading.lambda
   lambda-sound l i = then-gives (signature-sound (nested level.Test) (Nested level.Test) (nested-sound level.Test) i) (λ params j all. checked-gives (are_params params.0) _ j (λ so. then-gives (nested-sound level.Test j) (λ body r more. given-gives _ r (λ a e. g.Test.lambda all so more e))))
 
-  test-sound : Sound (reading.test nested) (g.Test Nested)
-  unfolding reading.test
+  test-sound : Sound (reading.any_test nested) (g.Test Nested)
+  unfolding reading.any_test
   test-sound i = sees-gives (g.Test Nested) s.Lambda (reading.lambda nested) lambda-sound i (λ _. plain_test-sound i)
 
   at-sound : (what : Level) → Sound (reading.at nested what) (g.At Nested what)

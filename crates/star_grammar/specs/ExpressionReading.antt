@@ -400,15 +400,15 @@ module _ (nested : Level → Reader Tree) where
     body ← nested level.Test
     given (deep (e.Lambda params.0 body.0 line) (max params.1 body.1))
 
-  unfoldable pub test : Reader Tree
-  test = λ i. if sees s.Lambda i then (skip >> lambda (front_line i)) i else plain_test i
+  unfoldable pub any_test : Reader Tree
+  any_test = λ i. if sees s.Lambda i then (skip >> lambda (front_line i)) i else plain_test i
 
   abbrev pub at : Level → Reader Tree
   at level.Primary = primary
   at level.Unary = unary
   at level.Negation = negation
   at level.Disjunction = disjunction
-  at level.Test = test
+  at level.Test = any_test
 
 -- expressions in which so many constructs nest at most
 unfoldable pub reads : ℕ → Level → Reader Tree

@@ -3,7 +3,8 @@ use bz_base::Txt;
 use sqlite_items::Boxed;
 use star_core::{BinOp, UnOp};
 use star_grammar::{
-    BareArg, BareClause, BareExpr, BareFile, BareLoadName, BarePair, BareParam, BareStmt, BareStmtKind,
+    BareArg, BareClause, BareExpr, BareFile, BareLoadName, BarePair, BareParam, BareStmt,
+    BareStmtKind,
 };
 use std::alloc::{AllocError, Global};
 

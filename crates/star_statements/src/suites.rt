@@ -17,7 +17,10 @@ ghost use Rattle.star_expressions.specs.Reads.{Finds, Reads};
 use crate::small_statements::simple;
 use bz_base::{May, Txt};
 use sqlite_items::Items;
-use star_expressions::{Cursor, NoTree, are_params, checked, deep, expression, listed_params, only, target_list, test_list};
+use star_expressions::{
+    Cursor, NoTree, are_params, checked, deep, expression, listed_params, only, target_list,
+    test_list,
+};
 use star_grammar::{
     BareExpr, BareName, BareParam, BareStmt, BareStmtKind, Inside, Level, Part, Sign,
 };
