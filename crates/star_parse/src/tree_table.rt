@@ -1,14 +1,13 @@
 //! Texts beside their trees, worked out by hand from the grammar.
-use crate::parse::{parse_bzl, parse_module};
 use crate::printer::printed;
 use bz_base::Miss;
-use star_statements::TreeFault;
+use star_statements::{TreeFault, tree};
 use std::alloc::{AllocError, Global};
 use std::test::Fail;
 
 /// The statements of a text, each with its line, or its fault.
 fn told(alloc: Global, text: &str) -> Result<String, AllocError> {
-    match parse_bzl(alloc, text) {
+    match tree(alloc, text) {
         Ok(file) => printed(alloc, &file),
         Err(Miss::Because(TreeFault::Lex { hint: _ })) => String::from_str(alloc, "lex"),
         Err(Miss::Because(TreeFault::Syntax { hint: _ })) => String::from_str(alloc, "syntax"),
@@ -158,7 +157,6 @@ fn other_texts_have_no_tree(rt: HostRuntime) -> Result<(), Fail> {
     }
     let got = told(alloc, "01")?;
     assert_eq!(rt; got.as_str(), "lex");
-    assert!(rt; parse_module(alloc, "x = 1").is_ok());
     Ok(())
 }
 
@@ -178,7 +176,7 @@ fn is_read(
     for _ in 0..times {
         text.push_str(back)?;
     }
-    Ok(parse_bzl(alloc, text.as_str()).is_ok())
+    Ok(tree(alloc, text.as_str()).is_ok())
 }
 
 #[test]
@@ -210,7 +208,7 @@ fn has_suites(alloc: Global, times: u64) -> Result<bool, AllocError> {
     }
     text.push_str(indentation.as_str())?;
     text.push_str("x")?;
-    Ok(parse_bzl(alloc, text.as_str()).is_ok())
+    Ok(tree(alloc, text.as_str()).is_ok())
 }
 
 #[test]
@@ -228,13 +226,13 @@ fn work_is_linear_in_the_text(rt: HostRuntime) -> Result<(), Fail> {
     for _ in 0..2000 {
         lines.push_str("x = [1, 2]\n")?;
     }
-    assert!(rt; parse_bzl(alloc, lines.as_str()).is_ok());
+    assert!(rt; tree(alloc, lines.as_str()).is_ok());
     let mut call = String::from_str(alloc, "f(")?;
     for at in 0..2000 {
         let arg = format!(in alloc; "a{at} = 1,")?;
         call.push_str(arg.as_str())?;
     }
     call.push_str(")")?;
-    assert!(rt; parse_bzl(alloc, call.as_str()).is_ok());
+    assert!(rt; tree(alloc, call.as_str()).is_ok());
     Ok(())
 }

@@ -4,7 +4,7 @@ use Rattle.star_core.specs.declared.trees.BinOp.{BinOp}
 use Rattle.star_core.specs.declared.trees.UnOp.{UnOp}
 use Rattle.star_grammar.specs.declared.bare_expressions.BareArg as arg
 use Rattle.star_grammar.specs.declared.bare_expressions.BareArg.{BareArg}
-use Rattle.star_grammar.specs.declared.bare_expressions.BareArg.TheOpen.{BareArg-F, BareClause-F, BareExpr-F, BareParam-F, BarePair-F}
+use Rattle.star_grammar.specs.declared.bare_expressions.BareArg.TheOpen.{BareArg-F, BareClause-F, BareExpr-F, BareParam-F}
 use Rattle.star_grammar.specs.declared.bare_expressions.BareClause as clause
 use Rattle.star_grammar.specs.declared.bare_expressions.BareClause.{BareClause}
 use Rattle.star_grammar.specs.declared.bare_expressions.BareExpr as e

@@ -8,7 +8,7 @@ use Rattle.star_grammar.specs.declared.bare_statements.BareLoadName.{BareLoadNam
 use Rattle.star_grammar.specs.declared.bare_statements.BareStmt.{BareStmt, out-BareStmt}
 use Rattle.star_grammar.specs.declared.bare_statements.BareStmtKind as st
 use Rattle.star_grammar.specs.declared.bare_statements.BareStmtKind.{BareStmtKind, the_lemmas}
-use Rattle.star_grammar.specs.declared.bare_statements.BareStmtKind.TheOpen.{BareStmt-F, BareStmtKind-F}
+use Rattle.star_grammar.specs.declared.bare_statements.BareStmtKind.TheOpen.{BareStmtKind-F}
 use Rattle.star_scopes.specs.StatementMeaning.{kind_meaning, kind_step, stmt_meaning, stmt_step}
 
 pub kind_meaning-Def : (name : BareName) → (params : List BareParam) → (body : List BareStmt) → kind_meaning (st.Def name params body) ≡ kind_step (BareStmtKind-F.Def name params (map stmt_meaning body))

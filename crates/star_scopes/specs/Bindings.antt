@@ -1,6 +1,5 @@
 -- Which names a target, clauses, parameters and statements bind in the scope in which they stand: the Starlark specification, "Name binding and variables". What nests in a function or a comprehension binds in that one's own scope.
-use Rattle.std.specs.Prelude.{ℕ, List, [], ◌∷◌, map}
-use Rattle.star_grammar.specs.declared.bare_expressions.BareName.{BareName}
+use Rattle.std.specs.Prelude.{ℕ, List, [], ◌∷◌}
 use Rattle.star_grammar.specs.declared.bare_statements.BareLoadName.{BareLoadName}
 use Rattle.star_names.specs.Variables.{Names, with_binding}
 

@@ -15,7 +15,7 @@ use Rattle.star_core.specs.declared.trees.Expr as e
 use Rattle.star_core.specs.declared.trees.ExprPair.{ExprPair, roll-ExprPair}
 use Rattle.star_core.specs.declared.trees.Target.{Target}
 use Rattle.star_core.specs.declared.trees.Target as target_tree
-use Rattle.star_grammar.specs.declared.bare_expressions.BareArg.TheOpen.{BareArg-F, BareClause-F, BareExpr-F, BareParam-F, BarePair-F}
+use Rattle.star_grammar.specs.declared.bare_expressions.BareArg.TheOpen.{BareArg-F, BareClause-F, BareExpr-F, BareParam-F}
 use Rattle.star_names.specs.Variables.{Names}
 use Rattle.star_scopes.specs.Binds.{ClauseLayer, ExprLayer, ParamLayer}
 use Rattle.star_scopes.specs.Making.{Making, ◌>>=◌, ◌>>◌, pure, each, begin, finish}
@@ -80,17 +80,17 @@ module _ (free : Names) (scopes : List Names) where
   unfoldable pub list_comp_made : ExprMeaning → List ClauseMeaning → Making Expr
   list_comp_made item clauses =
       let inner = variables (map (λ clause. clause.bound) clauses) ∷ scopes in do
-      made ← item.expr free inner
-      made_clauses ← clauses_made inner clauses
-      pure (e.ListComp made made_clauses)
+        made ← item.expr free inner
+        made_clauses ← clauses_made inner clauses
+        pure (e.ListComp made made_clauses)
 
   unfoldable pub dict_comp_made : ExprMeaning → ExprMeaning → List ClauseMeaning → Making Expr
   dict_comp_made key value clauses =
       let inner = variables (map (λ clause. clause.bound) clauses) ∷ scopes in do
-      made_key ← key.expr free inner
-      made ← value.expr free inner
-      made_clauses ← clauses_made inner clauses
-      pure (e.DictComp made_key made made_clauses)
+        made_key ← key.expr free inner
+        made ← value.expr free inner
+        made_clauses ← clauses_made inner clauses
+        pure (e.DictComp made_key made made_clauses)
 
   unfoldable pub unary_made : UnOp → ExprMeaning → Making Expr
   unary_made op operand = do

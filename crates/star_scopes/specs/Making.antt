@@ -1,5 +1,5 @@
 -- What is made beside a tree: the functions of the file, each at the place that it takes where it begins, and its loads.
-use Rattle.std.specs.Prelude.{ℕ, List, [], ◌∷◌, ◌++◌, length, set, Option, Some, None}
+use Rattle.std.specs.Prelude.{ℕ, List, [], ◌∷◌, ◌++◌, length, set, None}
 use Rattle.star_core.specs.declared.files.FnBody.TheVariants as body
 use Rattle.star_core.specs.declared.files.FnCode.{FnCode}
 use Rattle.star_core.specs.declared.loads.Load.{Load}

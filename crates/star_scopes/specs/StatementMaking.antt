@@ -1,10 +1,9 @@
 -- The trees that are made of statements, in the order of the text: each function takes its place where it begins.
-use Rattle.std.specs.Prelude.{ℕ, List, [], ◌∷◌, map, Option, Some, None}
+use Rattle.std.specs.Prelude.{ℕ, List, ◌∷◌, map, Option, Some, None}
 use Rattle.star_core.specs.declared.files.FnBody.TheVariants as body_tree
 use Rattle.star_core.specs.declared.files.FnCode.{FnCode}
 use Rattle.star_core.specs.declared.files.Param.{Param}
 use Rattle.star_core.specs.declared.loads.Load.{Load}
-use Rattle.star_core.specs.declared.loads.LoadName.{LoadName}
 use Rattle.star_core.specs.declared.trees.BinOp.{BinOp}
 use Rattle.star_core.specs.declared.trees.Stmt.{Stmt, roll-Stmt}
 use Rattle.star_core.specs.declared.trees.StmtKind.{StmtKind}
@@ -13,7 +12,7 @@ use Rattle.star_grammar.specs.declared.bare_expressions.BareExpr.{BareExpr}
 use Rattle.star_grammar.specs.declared.bare_expressions.BareName.{BareName}
 use Rattle.star_grammar.specs.declared.bare_expressions.BareParam.{BareParam}
 use Rattle.star_grammar.specs.declared.bare_statements.BareLoadName.{BareLoadName}
-use Rattle.star_grammar.specs.declared.bare_statements.BareStmtKind.TheOpen.{BareStmt-F, BareStmtKind-F}
+use Rattle.star_grammar.specs.declared.bare_statements.BareStmtKind.TheOpen.{BareStmtKind-F}
 use Rattle.star_names.specs.Variables.{Names}
 use Rattle.star_scopes.specs.ExprMaking.{params_made}
 use Rattle.star_scopes.specs.ExprMeaning.{meaning, param_meaning}

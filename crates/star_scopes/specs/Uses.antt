@@ -1,5 +1,5 @@
 -- Free names: those that no scope binds. Each stands once, in the order of its first use; the first that has no meaning in the dialect is unbound.
-use Rattle.std.specs.Prelude.{ℕ, List, [], ◌∷◌, Option, Some, None, Result, Ok, Err, Bool, if◌then◌else◌}
+use Rattle.std.specs.Prelude.{ℕ, List, [], ◌∷◌, Option, Some, None, Result, Ok, Err, if◌then◌else◌}
 use Rattle.star_grammar.specs.declared.bare_expressions.BareName.{BareName}
 use Rattle.star_names.specs.Variables.{Names, found, with_binding}
 use Rattle.star_scopes.specs.declared.dialects.Dialect.{Dialect}

@@ -116,7 +116,10 @@ fn with_kind(alloc: Global, names: Names, kind: &BareStmtKind) -> Mem<Names>
             let names = with_target(alloc, names, to)?;
             with_body(alloc, names, body.as_slice())
         }
-        BareStmtKind::Load { file: _, names: loaded } => with_loaded(alloc, names, loaded.items()),
+        BareStmtKind::Load {
+            file: _,
+            names: loaded,
+        } => with_loaded(alloc, names, loaded.items()),
         BareStmtKind::Assign { to, value: _ } => with_target(alloc, names, to),
         BareStmtKind::Augment {
             place,

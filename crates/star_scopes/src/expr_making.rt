@@ -37,7 +37,11 @@ impl Maker {
             BareExpr::Unary { op, of } => self.unary(*op, of.get()),
             BareExpr::Binary { op, left, right } => self.binary(*op, left.get(), right.get()),
             BareExpr::Cond { test, then, other } => self.cond(test.get(), then.get(), other.get()),
-            BareExpr::Lambda { params, body, line } => self.lambda(params.as_slice(), body.get(), *line),
+            BareExpr::Lambda { params, body, line } => self.lambda(
+                params.as_slice(),
+                body.get(),
+                *line,
+            ),
             BareExpr::Attr { of, name } => self.attr(of.get(), name),
             BareExpr::Index { of, at } => self.index(of.get(), at.get()),
             BareExpr::Slice {
@@ -312,7 +316,8 @@ impl Maker {
         self.scopes.enter(param_variables(self.alloc, params)?)?;
         let body = self.boxed(body)?;
         self.scopes.leave();
-        self.lists.finish(self.alloc, place, lambda_code(made, body, line));
+        self.lists
+            .finish(self.alloc, place, lambda_code(made, body, line));
         Ok(Expr::Lambda(place))
     }
 

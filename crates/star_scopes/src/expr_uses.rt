@@ -18,12 +18,7 @@ use star_grammar::{BareArg, BareClause, BareExpr, BareName, BarePair, BareParam}
 use star_names::{Names, Scopes};
 use std::alloc::Global;
 
-fn free_use(
-    alloc: Global,
-    dialect: Dialect,
-    names: Names,
-    name: &BareName,
-) -> May<Names, Unbound>
+fn free_use(alloc: Global, dialect: Dialect, names: Names, name: &BareName) -> May<Names, Unbound>
     ensures { Gives (uses.free_use dialect name.now names) result }
 {
     if has_free(dialect, name.name.as_str().as_bytes()) {
@@ -71,20 +66,43 @@ pub(crate) fn expr_uses(
         BareExpr::Tuple(items) => items_use(alloc, dialect, scopes, names, items.as_slice()),
         BareExpr::Dict(pairs) => pairs_use(alloc, dialect, scopes, names, pairs.as_slice()),
         BareExpr::ListComp { item, clauses } => {
-            list_comp_uses(alloc, dialect, scopes, names, clauses.as_slice(), item.get())
+            list_comp_uses(
+                alloc,
+                dialect,
+                scopes,
+                names,
+                clauses.as_slice(),
+                item.get(),
+            )
         }
         BareExpr::DictComp {
             key,
             value,
             clauses,
-        } => dict_comp_uses(alloc, dialect, scopes, names, clauses.as_slice(), key.get(), value.get()),
+        } => dict_comp_uses(
+            alloc,
+            dialect,
+            scopes,
+            names,
+            clauses.as_slice(),
+            key.get(),
+            value.get(),
+        ),
         BareExpr::Bracketed(inside) => expr_uses(alloc, dialect, scopes, names, inside.get()),
         BareExpr::Unary { op: _, of } => expr_uses(alloc, dialect, scopes, names, of.get()),
         BareExpr::Binary { op: _, left, right } => {
             two_use(alloc, dialect, scopes, names, left.get(), right.get())
         }
         BareExpr::Cond { test, then, other } => {
-            cond_uses(alloc, dialect, scopes, names, test.get(), then.get(), other.get())
+            cond_uses(
+                alloc,
+                dialect,
+                scopes,
+                names,
+                test.get(),
+                then.get(),
+                other.get(),
+            )
         }
         BareExpr::Lambda {
             params,
@@ -105,7 +123,14 @@ pub(crate) fn expr_uses(
             maybe_uses(alloc, dialect, scopes, names, step)
         }
         BareExpr::Call { function, args } => {
-            call_uses(alloc, dialect, scopes, names, args.as_slice(), function.get())
+            call_uses(
+                alloc,
+                dialect,
+                scopes,
+                names,
+                args.as_slice(),
+                function.get(),
+            )
         }
     }
 }
@@ -246,7 +271,9 @@ fn param_uses(
     ensures same { OnOk result (scopes.new ≡ scopes.old) }
 {
     match param {
-        BareParam::Optional { name: _, default } => expr_uses(alloc, dialect, scopes, names, default),
+        BareParam::Optional { name: _, default } => expr_uses(
+            alloc, dialect, scopes, names, default,
+        ),
         BareParam::Required(_) => Ok(names),
         BareParam::Bare { line: _ } => Ok(names),
         BareParam::Rest { name: _, line: _ } => Ok(names),

@@ -51,7 +51,10 @@ impl Maker {
                 self.def(body.as_slice(), name, params.as_slice(), line)
             }
             BareStmtKind::If { test, then, other } => {
-                self.branch(then.as_slice(), other.as_slice(), test)
+                let test = self.expr(test)?;
+                let then = self.body_made(then.as_slice())?;
+                let other = self.body_made(other.as_slice())?;
+                Ok(StmtKind::If { test, then, other })
             }
             BareStmtKind::For { to, over, body } => self.looped(body.as_slice(), to, over),
             BareStmtKind::Return(value) => self.returned(value),
@@ -67,7 +70,13 @@ impl Maker {
 
     #[cycle(making_statements)]
     #[tactic(auto, unfolding(crate::specs::StatementMaking::def_made))]
-    fn def(&mut self, body: &[BareStmt], name: &BareName, params: &[BareParam], line: u64) -> Mem<StmtKind>
+    fn def(
+        &mut self,
+        body: &[BareStmt],
+        name: &BareName,
+        params: &[BareParam],
+        line: u64,
+    ) -> Mem<StmtKind>
         ensures made { Makes (spec.def_made self.old.free self.old.scopes name.now params.now (map stmt_meaning body.now) line self.old.lists) result self.new }
         ensures same { Keeps result self.old self.new }
     {
@@ -78,25 +87,12 @@ impl Maker {
         let made = self.body_made(body)?;
         self.scopes.leave();
         let called = name.name.copy(self.alloc)?;
-        self.lists
-            .finish(self.alloc, place, def_code(called, made_params, made, line));
+        self.lists.finish(self.alloc, place, def_code(called, made_params, made, line));
         let to = self.variable(&name.name)?;
         Ok(StmtKind::Def {
             function: place,
             to,
         })
-    }
-
-    #[cycle(making_statements)]
-    #[tactic(auto, unfolding(crate::specs::StatementMaking::if_made))]
-    fn branch(&mut self, chosen: &[BareStmt], other: &[BareStmt], test: &BareExpr) -> Mem<StmtKind>
-        ensures made { Makes (spec.if_made self.old.free self.old.scopes test.now (map stmt_meaning chosen.now) (map stmt_meaning other.now) self.old.lists) result self.new }
-        ensures same { Keeps result self.old self.new }
-    {
-        let test = self.expr(test)?;
-        let then = self.body_made(chosen)?;
-        let other = self.body_made(other)?;
-        Ok(StmtKind::If { test, then, other })
     }
 
     #[cycle(making_statements)]

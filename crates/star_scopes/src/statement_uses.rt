@@ -139,11 +139,7 @@ fn def_uses(
 }
 
 /// The free names of a file, or the first use of a name that is unbound.
-pub(crate) fn free_names(
-    alloc: Global,
-    dialect: Dialect,
-    body: &[BareStmt],
-) -> May<Names, Unbound>
+pub(crate) fn free_names(alloc: Global, dialect: Dialect, body: &[BareStmt]) -> May<Names, Unbound>
     ensures { Gives (free_names dialect body.now) result }
 {
     let mut scopes = Scopes::new(alloc);

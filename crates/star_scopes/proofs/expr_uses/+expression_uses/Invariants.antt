@@ -90,4 +90,4 @@ abbrev pub invariant-more_clauses_use-clauses : goal.invariant-more_clauses_use-
 invariant-more_clauses_use-clauses l =
     (l.scopes ≡ l.fn.scopes)
     × (each_uses (map (λ (clause : ClauseMeaning). clause.uses l.dialect l.fn.scopes l.fn.scopes) (map clause_meaning l.clauses)) l.fn.names
-        ≡ each_uses (map (λ (clause : ClauseMeaning). clause.uses l.dialect l.fn.scopes l.fn.scopes) (map clause_meaning (drop l.clause-index l.clauses))) l.names)
+    ≡ each_uses (map (λ (clause : ClauseMeaning). clause.uses l.dialect l.fn.scopes l.fn.scopes) (map clause_meaning (drop l.clause-index l.clauses))) l.names)

@@ -1,4 +1,4 @@
-use Rattle.std.proofs.Common.{◌≡◌, drop, map, max, ◌+◌, ◌*◌, List}
+use Rattle.std.proofs.Common.{◌≡◌, drop, map, max, ◌+◌, ◌*◌}
 use Rattle.star_grammar.specs.declared.bare_expressions.BareClause.{size-BareClause}
 use Rattle.star_grammar.specs.declared.bare_expressions.BareExpr.{size-BareExpr}
 use Rattle.star_names.specs.Variables.{outer}

@@ -1,13 +1,14 @@
 use Rattle.std.proofs.Common.{rules}
-use Rattle.star_scopes.specs.StatementMaking.{value_made}
+use Rattle.star_scopes.specs.StatementMaking.{if_made, value_made}
 use Rattle.star_scopes.proofs.StatementLayers.{kind_meaning-Assign, kind_meaning-Augment, kind_meaning-Break, kind_meaning-Continue, kind_meaning-Def, kind_meaning-For, kind_meaning-If, kind_meaning-Load, kind_meaning-Pass, kind_meaning-Return, kind_meaning-Value}
 use Rattle.star_scopes.proofs.maker.Maker.+making_statements.Goals as goal
 
 pub kind-returns-in-Def-clause-made : goal.kind-returns-in-Def-clause-made
 kind-returns-in-Def-clause-made t c = rw c.in-Def.is (rw (kind_meaning-Def c.in-Def.name c.in-Def.params c.in-Def.body) (search rules))
 
-pub kind-returns-in-If-clause-made : goal.kind-returns-in-If-clause-made
-kind-returns-in-If-clause-made t c = rw c.in-If.is (rw (kind_meaning-If c.in-If.test c.in-If.then c.in-If.other) (search rules))
+pub kind-returns-in_ok-other-in-If-clause-made : goal.kind-returns-in_ok-other-in-If-clause-made
+unfolding if_made
+kind-returns-in_ok-other-in-If-clause-made t c = rw c.in-If.is (rw (kind_meaning-If c.in-If.test c.in-If.then c.in-If.other) (search rules))
 
 pub kind-returns-in-For-clause-made : goal.kind-returns-in-For-clause-made
 kind-returns-in-For-clause-made t c = rw c.in-For.is (rw (kind_meaning-For c.in-For.to c.in-For.over c.in-For.body) (search rules))

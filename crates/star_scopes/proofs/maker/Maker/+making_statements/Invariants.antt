@@ -1,4 +1,4 @@
-use Rattle.std.proofs.Common.{◌≡◌, drop, map, max, ◌+◌, ◌*◌}
+use Rattle.std.proofs.Common.{◌≡◌, drop, map, ◌+◌, ◌*◌}
 use Rattle.star_scopes.specs.Making.{each, prepended}
 use Rattle.star_scopes.specs.Meanings.{StmtMeaning}
 use Rattle.star_scopes.specs.StatementMaking as spec
