@@ -116,8 +116,8 @@ module _ (free : Names) (scopes : List Names) where
   unfolding some_clauses_made
   some_clauses-fine inner first more =
       then (first.1.clause free inner scopes) (λ made i j _ _ within _.
-        then (more_clauses-fine inner more) (λ others k l up _ all _.
-          done k l (made ∷ others) (omega arith)))
+      then (more_clauses-fine inner more) (λ others k l up _ all _.
+      done k l (made ∷ others) (omega arith)))
 
   pub clauses-fine : (inner : List Names) (clauses : List FineClause) → Good 0 0 (of_each functions_of_clause) none (clauses_made free scopes inner (map clause_meaning (map bare clauses)))
   unfolding clauses_made
@@ -129,17 +129,17 @@ module _ (free : Names) (scopes : List Names) where
   list_comp-fine item clauses =
       let inner = variables (map (λ clause. clause.bound) (map clause_meaning (map bare clauses))) ∷ scopes in
       then (item.1.expr free inner) (λ made i j _ _ within _.
-        then (clauses-fine inner clauses) (λ others k l up _ all _.
-          done k l (e.ListComp made others) (omega (arith, is.functions_of_expr-ListComp made others))))
+      then (clauses-fine inner clauses) (λ others k l up _ all _.
+      done k l (e.ListComp made others) (omega (arith, is.functions_of_expr-ListComp made others))))
 
   pub dict_comp-fine : (key value : FineExpr) (clauses : List FineClause) → Good 0 0 functions_of_expr none (dict_comp_made free scopes (meaning key.0) (meaning value.0) (map clause_meaning (map bare clauses)))
   unfolding dict_comp_made
   dict_comp-fine key value clauses =
       let inner = variables (map (λ clause. clause.bound) (map clause_meaning (map bare clauses))) ∷ scopes in
       then (key.1.expr free inner) (λ made_key i j _ _ first _.
-        then (value.1.expr free inner) (λ made k l up _ second _.
-          then (clauses-fine inner clauses) (λ others p q further _ all _.
-            done p q (e.DictComp made_key made others) (omega (arith, is.functions_of_expr-DictComp made_key made others)))))
+      then (value.1.expr free inner) (λ made k l up _ second _.
+      then (clauses-fine inner clauses) (λ others p q further _ all _.
+      done p q (e.DictComp made_key made others) (omega (arith, is.functions_of_expr-DictComp made_key made others)))))
 
   pub unary-fine : (op : UnOp) (operand : FineExpr) → Good 0 0 functions_of_expr none (unary_made free scopes op (meaning operand.0))
   unfolding unary_made
@@ -149,26 +149,26 @@ module _ (free : Names) (scopes : List Names) where
   unfolding binary_made
   binary-fine op left right =
       then (left.1.expr free scopes) (λ made i j _ _ within _.
-        then (right.1.expr free scopes) (λ other k l up _ also _.
-          done k l (e.Binary op made other) (omega (arith, is.functions_of_expr-Binary op made other))))
+      then (right.1.expr free scopes) (λ other k l up _ also _.
+      done k l (e.Binary op made other) (omega (arith, is.functions_of_expr-Binary op made other))))
 
   pub cond-fine : (test chosen other : FineExpr) → Good 0 0 functions_of_expr none (cond_made free scopes (meaning test.0) (meaning chosen.0) (meaning other.0))
   unfolding cond_made
   cond-fine test chosen other =
       then (chosen.1.expr free scopes) (λ made_chosen i j _ _ first _.
-        then (test.1.expr free scopes) (λ made_test k l up _ second _.
-          then (other.1.expr free scopes) (λ made_other p q further _ third _.
-            done p q (e.Cond made_test made_chosen made_other) (omega (arith, is.functions_of_expr-Cond made_test made_chosen made_other)))))
+      then (test.1.expr free scopes) (λ made_test k l up _ second _.
+      then (other.1.expr free scopes) (λ made_other p q further _ third _.
+      done p q (e.Cond made_test made_chosen made_other) (omega (arith, is.functions_of_expr-Cond made_test made_chosen made_other)))))
 
   pub lambda-fine : (params : List FineParam) (body : FineExpr) (line : ℕ) → Good 0 0 functions_of_expr none (lambda_made free scopes (map param_meaning (map bare params)) (meaning body.0) line)
   unfolding lambda_made
   lambda-fine params body line =
       let inner = variables (map (λ param. param.bound) (map param_meaning (map bare params))) ∷ scopes in
       then (begin-good 0 0) (λ place i j _ _ there _.
-        then (params-fine params) (λ made_params k l up _ first _.
-          then (body.1.expr free inner) (λ made_body p q further _ second _.
-            bind-good p q none none functions_of_expr none (finish place (lambda_code made_params made_body line)) (λ _. pure (e.Lambda place)) (finish-good p q place (lambda_code made_params made_body line) (omega arith) (omega arith)) (λ _ g h more _ _ _.
-              done g h (e.Lambda place) (omega (arith, is.functions_of_expr-Lambda place))))))
+      then (params-fine params) (λ made_params k l up _ first _.
+      then (body.1.expr free inner) (λ made_body p q further _ second _.
+      bind-good p q none none functions_of_expr none (finish place (lambda_code made_params made_body line)) (λ _. pure (e.Lambda place)) (finish-good p q place (lambda_code made_params made_body line) (omega arith) (omega arith)) (λ _ g h more _ _ _.
+      done g h (e.Lambda place) (omega (arith, is.functions_of_expr-Lambda place))))))
 
   pub attr-fine : (container : FineExpr) (name : List ℕ) → Good 0 0 functions_of_expr none (attr_made free scopes (meaning container.0) name)
   unfolding attr_made
@@ -178,31 +178,31 @@ module _ (free : Names) (scopes : List Names) where
   unfolding index_made
   index-fine container at =
       then (container.1.expr free scopes) (λ made i j _ _ within _.
-        then (at.1.expr free scopes) (λ made_at k l up _ also _.
-          done k l (e.Index made made_at) (omega (arith, is.functions_of_expr-Index made made_at))))
+      then (at.1.expr free scopes) (λ made_at k l up _ also _.
+      done k l (e.Index made made_at) (omega (arith, is.functions_of_expr-Index made made_at))))
 
   pub slice-fine : (container : FineExpr) (begin end step : Option FineExpr) → Good 0 0 functions_of_expr none (slice_made free scopes (meaning container.0) (option_map meaning (option_map bare begin)) (option_map meaning (option_map bare end)) (option_map meaning (option_map bare step)))
   unfolding slice_made
   slice-fine container begin end step =
       then (container.1.expr free scopes) (λ made i j _ _ within _.
-        then (maybe-fine begin) (λ made_begin k l up _ first _.
-          then (maybe-fine end) (λ made_end p q further _ second _.
-            then (maybe-fine step) (λ made_step g h more _ third _.
-              done g h (e.Slice made made_begin made_end made_step) (omega (arith, is.functions_of_expr-Slice made made_begin made_end made_step))))))
+      then (maybe-fine begin) (λ made_begin k l up _ first _.
+      then (maybe-fine end) (λ made_end p q further _ second _.
+      then (maybe-fine step) (λ made_step g h more _ third _.
+      done g h (e.Slice made made_begin made_end made_step) (omega (arith, is.functions_of_expr-Slice made made_begin made_end made_step))))))
 
   pub call-fine : (function : FineExpr) (args : List FineArg) → Good 0 0 functions_of_expr none (call_made free scopes (meaning function.0) (map arg_meaning (map bare args)))
   unfolding call_made
   call-fine function args =
       then (function.1.expr free scopes) (λ made i j _ _ within _.
-        then (args-fine args) (λ made_args k l up _ all _.
-          done k l (e.Call made made_args) (omega (arith, is.functions_of_expr-Call made made_args))))
+      then (args-fine args) (λ made_args k l up _ all _.
+      done k l (e.Call made made_args) (omega (arith, is.functions_of_expr-Call made made_args))))
 
   pub index_target-fine : (container at : FineExpr) → Good 0 0 functions_of_target none (index_target free scopes (meaning container.0) (meaning at.0))
   unfolding index_target
   index_target-fine container at =
       then (container.1.expr free scopes) (λ made i j _ _ within _.
-        then (at.1.expr free scopes) (λ made_at k l up _ also _.
-          done k l (target_tree.Index made made_at) (omega (arith, is.functions_of_target-Index made made_at))))
+      then (at.1.expr free scopes) (λ made_at k l up _ also _.
+      done k l (target_tree.Index made made_at) (omega (arith, is.functions_of_target-Index made made_at))))
 
   pub many_target-fine : (targets : List FineExpr) → Good 0 0 functions_of_target none (many_target free scopes (map meaning (map bare targets)))
   unfolding many_target
@@ -220,15 +220,15 @@ module _ (free : Names) (scopes : List Names) where
   unfolding pair_made
   pair-fine key value =
       then (key.1.expr free scopes) (λ made_key i j _ _ within _.
-        then (value.1.expr free scopes) (λ made k l up _ also _.
-          done k l (roll-ExprPair (record { key = made_key; value = made })) (omega (arith, is.functions_of_pair-roll made_key made))))
+      then (value.1.expr free scopes) (λ made k l up _ also _.
+      done k l (roll-ExprPair (record { key = made_key; value = made })) (omega (arith, is.functions_of_pair-roll made_key made))))
 
 pub for_clause-fine : (free : Names) (inner around : List Names) (to over : FineExpr) → Good 0 0 functions_of_clause none (for_clause_made free inner around (meaning to.0) (meaning over.0))
 unfolding for_clause_made
 for_clause-fine free inner around to over =
     then (to.1.target free inner) (λ made_to i j _ _ within _.
-      then (over.1.expr free around) (λ made k l up _ also _.
-        done k l (clause_tree.For made_to made) (omega (arith, is.functions_of_clause-For made_to made))))
+    then (over.1.expr free around) (λ made k l up _ also _.
+    done k l (clause_tree.For made_to made) (omega (arith, is.functions_of_clause-For made_to made))))
 
 -- ---- a layer of fine parts is fine
 
@@ -354,4 +354,3 @@ param-fine = ind-BareParam (λ tree. ArgFine (arg_meaning tree)) (λ tree. Claus
     (λ tree layer is. subst (λ one. ExprFine (meaning (roll-BareExpr one))) is (expr-rolled layer))
     (λ tree layer is. subst (λ one. ParamFine (param_meaning (roll-BareParam one))) is (param-rolled layer))
     (λ tree layer is. subst (λ one. PairFine (pair_meaning (roll-BarePair one))) is (pair-rolled layer))
-

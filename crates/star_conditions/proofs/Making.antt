@@ -30,14 +30,14 @@ pub from-good : {A : Type 0} {functions loads : A → ℕ} {making : Making A} (
 from-good n m good lists _ _ = good lists (omega arith) (omega arith)
 
 pub pure-good : {A : Type 0} (n m : ℕ) (functions loads : A → ℕ) (a : A) → functions a ≤ n → loads a ≤ m → Good n m functions loads (pure a)
-pure-good n m functions loads a within loaded lists enough enough_loads = record
-  { functions_grow = le_refl _
-  ; loads_grow = le_refl _
-  ; value_functions = le_trans within enough
-  ; value_loads = le_trans loaded enough_loads
-  ; code_functions = λ k _ so. so
-  ; code_loads = λ k _ so. so
-  }
+pure-good n m functions loads a within loaded lists enough enough_loads = record {
+  functions_grow = le_refl _;
+  loads_grow = le_refl _;
+  value_functions = le_trans within enough;
+  value_loads = le_trans loaded enough_loads;
+  code_functions = λ k _ so. so;
+  code_loads = λ k _ so. so;
+}
 
 pub bind-good : {A B : Type 0} (n m : ℕ) (f h : A → ℕ) (functions loads : B → ℕ) (making : Making A) (next : A → Making B) → Good n m f h making
     → ((a : A) (i j : ℕ) → n ≤ i → m ≤ j → f a ≤ i → h a ≤ j → Good i j functions loads (next a)) → Good n m functions loads (making >>= next)
@@ -45,14 +45,14 @@ bind-good n m f h functions loads making next good goes lists enough enough_load
     let first = good lists enough enough_loads in
     let after = (making lists).1 in
     let second = goes (making lists).0 (length after.functions) (length after.loads) (le_trans enough first.functions_grow) (le_trans enough_loads first.loads_grow) first.value_functions first.value_loads after (le_refl _) (le_refl _) in
-    record
-      { functions_grow = le_trans first.functions_grow second.functions_grow
-      ; loads_grow = le_trans first.loads_grow second.loads_grow
-      ; value_functions = second.value_functions
-      ; value_loads = second.value_loads
-      ; code_functions = λ k above so. second.code_functions k above (first.code_functions k (le_trans second.functions_grow above) so)
-      ; code_loads = λ k above so. second.code_loads k above (first.code_loads k (le_trans second.loads_grow above) so)
-      }
+    record {
+      functions_grow = le_trans first.functions_grow second.functions_grow;
+      loads_grow = le_trans first.loads_grow second.loads_grow;
+      value_functions = second.value_functions;
+      value_loads = second.value_loads;
+      code_functions = λ k above so. second.code_functions k above (first.code_functions k (le_trans second.functions_grow above) so);
+      code_loads = λ k above so. second.code_loads k above (first.code_loads k (le_trans second.loads_grow above) so);
+    }
 
 -- a making that is always fine, and what comes behind it
 pub then : {A B : Type 0} {f h : A → ℕ} {functions loads : B → ℕ} {making : Making A} {next : A → Making B} {n m : ℕ} → Good 0 0 f h making
@@ -64,8 +64,16 @@ pub each-good : {A B C : Type 0} {P : C → Type 0} (functions loads : A → ℕ
 each-good functions loads make means good [] = pure-good 0 0 _ _ [] (le_refl _) (le_refl _)
 each-good functions loads make means good (item ∷ more) =
     bind-good 0 0 functions loads _ _ (make (means item.0)) _ (good item.0 item.1) (λ a i j _ _ within loaded.
-      bind-good i j (λ made. greatest (map functions made)) (λ made. greatest (map loads made)) _ _ _ _ (from-good i j (each-good functions loads make means good more)) (λ others k l fewer fewer_loads many many_loads.
-        pure-good k l _ _ (a ∷ others) (omega arith) (omega arith)))
+    bind-good i j (λ made. greatest (map functions made)) (λ made. greatest (map loads made)) _ _ _ _ (from-good i j (each-good functions loads make means good more)) (λ others k l fewer fewer_loads many many_loads.
+    pure-good k l _ _ (a ∷ others) (omega arith) (omega arith)))
+
+pub each-sure : {A B C : Type 0} (functions loads : A → ℕ) (make : B → Making A) (means : C → B) → ((c : C) → Good 0 0 functions loads (make (means c)))
+    → (items : List C) → Good 0 0 (λ made. greatest (map functions made)) (λ made. greatest (map loads made)) (each (map make (map means items)))
+each-sure functions loads make means good [] = pure-good 0 0 _ _ [] (le_refl _) (le_refl _)
+each-sure functions loads make means good (item ∷ more) =
+    bind-good 0 0 functions loads _ _ (make (means item)) _ (good item) (λ a i j _ _ within loaded.
+    bind-good i j (λ made. greatest (map functions made)) (λ made. greatest (map loads made)) _ _ _ _ (from-good i j (each-sure functions loads make means good more)) (λ others k l fewer fewer_loads many many_loads.
+    pure-good k l _ _ (a ∷ others) (omega arith) (omega arith)))
 
 -- what has no places
 abbrev pub none : {A : Type 0} → A → ℕ
@@ -89,35 +97,35 @@ greatest-set f k (y ∷ xs) (suc i) x all one = let more = greatest-set f k xs i
 pub begin-good : (n m : ℕ) → Good n m (λ place. place + 1) none begin
 begin-good n m lists enough enough_loads =
     let more = length-append lists.functions (begun ∷ []) in
-    record
-      { functions_grow = omega (arith, more)
-      ; loads_grow = le_refl _
-      ; value_functions = omega (arith, more)
-      ; value_loads = omega arith
-      ; code_functions = λ k above so. greatest-behind functions_of_code k lists.functions begun so (omega arith)
-      ; code_loads = λ k above so. greatest-behind loads_of_code k lists.functions begun so (omega arith)
-      }
+    record {
+      functions_grow = omega (arith, more);
+      loads_grow = le_refl _;
+      value_functions = omega (arith, more);
+      value_loads = omega arith;
+      code_functions = λ k above so. greatest-behind functions_of_code k lists.functions begun so (omega arith);
+      code_loads = λ k above so. greatest-behind loads_of_code k lists.functions begun so (omega arith);
+    }
 
 pub finish-good : (n m place : ℕ) (code : FnCode) → functions_of_code code ≤ n → loads_of_code code ≤ m → Good n m none none (finish place code)
 finish-good n m place code within loaded lists enough enough_loads =
     let same = length-set lists.functions place code in
-    record
-      { functions_grow = omega (arith, same)
-      ; loads_grow = le_refl _
-      ; value_functions = omega arith
-      ; value_loads = omega arith
-      ; code_functions = λ k above so. greatest-set functions_of_code k lists.functions place code so (omega (arith, same))
-      ; code_loads = λ k above so. greatest-set loads_of_code k lists.functions place code so (omega arith)
-      }
+    record {
+      functions_grow = omega (arith, same);
+      loads_grow = le_refl _;
+      value_functions = omega arith;
+      value_loads = omega arith;
+      code_functions = λ k above so. greatest-set functions_of_code k lists.functions place code so (omega (arith, same));
+      code_loads = λ k above so. greatest-set loads_of_code k lists.functions place code so (omega arith);
+    }
 
 pub load-good : (n m : ℕ) (loaded : Load) → Good n m none (λ place. place + 1) (load loaded)
 load-good n m loaded lists enough enough_loads =
     let more = length-append lists.loads (loaded ∷ []) in
-    record
-      { functions_grow = le_refl _
-      ; loads_grow = omega (arith, more)
-      ; value_functions = omega arith
-      ; value_loads = omega (arith, more)
-      ; code_functions = λ k above so. so
-      ; code_loads = λ k above so. so
-      }
+    record {
+      functions_grow = le_refl _;
+      loads_grow = omega (arith, more);
+      value_functions = omega arith;
+      value_loads = omega (arith, more);
+      code_functions = λ k above so. so;
+      code_loads = λ k above so. so;
+    }
