@@ -1,6 +1,9 @@
--- The places in resolved files.
+-- The places and the scopes in resolved files.
 use Rattle.std.proofs.Common.{ℕ, ◌≡◌, ◌≤◌, List, [], map, Result, Ok, Err, arith, le_refl, subst, IfOk}
 use Rattle.star_conditions.proofs.Statements.{all-fine}
+use Rattle.star_conditions.proofs.Placings.{still}
+use Rattle.star_conditions.proofs.StatementScopes.{all-sound}
+use Rattle.star_conditions.specs.Placed.{VariablesAreThere}
 use Rattle.star_conditions.specs.Places.{PlacesAreThere}
 use Rattle.star_core.specs.declared.files.File.{File}
 use Rattle.star_grammar.specs.declared.bare_statements.BareStmt.{BareStmt}
@@ -25,3 +28,19 @@ with_free-places body (Err unbound) file is = subst (λ result. IfOk result Plac
 
 pub resolved-places : (dialect : Dialect) (body : List BareStmt) (file : File) → resolved dialect body ≡ Ok file → PlacesAreThere file
 resolved-places dialect body file is = with_free-places body (free_names dialect body) file is
+
+file_with-variables : (free : Names) (body : List BareStmt) → VariablesAreThere (file_with free body)
+file_with-variables free body =
+    let sound = all-sound free (file_scopes body) body no_lists (λ place. 0) in
+    record {
+      around = sound.now;
+      body = sound.value sound.now (still _).keeps;
+      functions = sound.codes sound.now (still _).keeps (λ place below. absurd (omega (arith, below)));
+    }
+
+with_free-variables : (body : List BareStmt) (free : Result Names Unbound) (file : File) → with_free body free ≡ Ok file → VariablesAreThere file
+with_free-variables body (Ok free) file is = subst (λ result. IfOk result VariablesAreThere) is (file_with-variables free body)
+with_free-variables body (Err unbound) file is = subst (λ result. IfOk result VariablesAreThere) is tt
+
+pub resolved-variables : (dialect : Dialect) (body : List BareStmt) (file : File) → resolved dialect body ≡ Ok file → VariablesAreThere file
+resolved-variables dialect body file is = with_free-variables body (free_names dialect body) file is

@@ -1,5 +1,10 @@
+pub mod ExpressionScopes
 pub mod Expressions
 pub mod Files
 pub mod Making
+pub mod PlacedLayers
 pub mod PlaceLayers
+pub mod Placings
+pub mod ScopesFound
+pub mod StatementScopes
 pub mod Statements
