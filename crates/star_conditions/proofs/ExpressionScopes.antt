@@ -1,27 +1,26 @@
 -- The scopes round what is made of expressions.
-use Rattle.std.proofs.Common.{◌≡◌, ℕ, suc, Bool, true, List, [], ◌∷◌, length, map, Option, Some, None, option_map, refl, ap, ◌∙◌, subst, sym}
+use Rattle.std.proofs.Common.{◌≡◌, ℕ, true, List, [], ◌∷◌, length, map, Option, Some, None, option_map, refl, ap, ◌∙◌, subst, sym}
 use Rattle.std.proofs.lemmas.Bool.{and_from, and_parts}
-use Rattle.star_conditions.proofs.Expressions.{With, bare}
-use Rattle.star_conditions.proofs.PlacedLayers as is
-use Rattle.star_conditions.proofs.Placings.{Known, Keeps, Later, back, again, Good, Always, AllIn, done, bind-good, then, first, only, each-good, begin-good, finish-good}
+use Rattle.star_conditions.proofs.Trees.{With, bare}
+use Rattle.star_conditions.proofs.ScopeLayers as is
+use Rattle.star_conditions.proofs.ScopesMade.{back, Always, AllIn, done, bind-good, then, first, only, each-good, begin-good, finish-good}
 use Rattle.star_conditions.proofs.ScopesFound.{variable-placed, eqb-true}
-use Rattle.star_conditions.specs.Placed.{Placed, each_placed, maybe_placed, clauses_placed, arg_in, clause_in, code_in, expr_in, pair_in, param_in, target_in}
+use Rattle.star_conditions.specs.ScopesRound.{Placed, each_placed, maybe_placed, clauses_placed, arg_in, clause_in, code_in, expr_in, pair_in, param_in, target_in}
 use Rattle.star_core.specs.declared.trees.Arg as arg_tree
 use Rattle.star_core.specs.declared.trees.BinOp.{BinOp}
 use Rattle.star_core.specs.declared.trees.Clause.{Clause}
 use Rattle.star_core.specs.declared.trees.Clause as clause_tree
 use Rattle.star_core.specs.declared.trees.Expr as e
 use Rattle.star_core.specs.declared.trees.Expr.{Expr}
-use Rattle.star_core.specs.declared.trees.ExprPair.{ExprPair, roll-ExprPair}
+use Rattle.star_core.specs.declared.trees.ExprPair.{roll-ExprPair}
 use Rattle.star_core.specs.declared.trees.Target as target_tree
 use Rattle.star_core.specs.declared.trees.UnOp.{UnOp}
-use Rattle.star_core.specs.declared.files.Param.{Param}
 use Rattle.star_core.specs.declared.files.Param.TheVariants as param_tree
-use Rattle.star_grammar.specs.declared.bare_expressions.BareArg.{BareArg, ind-BareArg, fold-roll-BareArg, map-BareArg, roll-BareArg}
+use Rattle.star_grammar.specs.declared.bare_expressions.BareArg.{BareArg, fold-roll-BareArg, map-BareArg, roll-BareArg}
 use Rattle.star_grammar.specs.declared.bare_expressions.BareArg.TheOpen.{BareArg-F, BareClause-F, BareExpr-F, BareParam-F, BarePair-F}
-use Rattle.star_grammar.specs.declared.bare_expressions.BareClause.{BareClause, ind-BareClause, fold-roll-BareClause, map-BareClause, roll-BareClause}
+use Rattle.star_grammar.specs.declared.bare_expressions.BareClause.{BareClause, fold-roll-BareClause, map-BareClause, roll-BareClause}
 use Rattle.star_grammar.specs.declared.bare_expressions.BareExpr.{BareExpr, ind-BareExpr, fold-roll-BareExpr, map-BareExpr, roll-BareExpr}
-use Rattle.star_grammar.specs.declared.bare_expressions.BarePair.{BarePair, ind-BarePair, fold-roll-BarePair, map-BarePair, roll-BarePair}
+use Rattle.star_grammar.specs.declared.bare_expressions.BarePair.{BarePair, fold-roll-BarePair, map-BarePair, roll-BarePair}
 use Rattle.star_grammar.specs.declared.bare_expressions.BareParam.{BareParam, ind-BareParam, fold-roll-BareParam, map-BareParam, roll-BareParam}
 use Rattle.star_names.specs.Variables.{Names}
 use Rattle.star_scopes.specs.ExprMaking.{arg_made, clause_made, expr_made, param_made, target_made, items_made, pairs_made, args_made, params_made, targets_made, maybe_made, list_made, tuple_made, dict_made, more_clauses_made, some_clauses_made, clauses_made, list_comp_made, dict_comp_made, unary_made, binary_made, cond_made, lambda_made, lambda_code, attr_made, index_made, slice_made, call_made, index_target, many_target, named_arg_made, optional_made, pair_made, for_clause_made}

@@ -1,9 +1,9 @@
 -- The places and the scopes in resolved files.
-use Rattle.std.proofs.Common.{ℕ, ◌≡◌, ◌≤◌, List, [], map, Result, Ok, Err, arith, le_refl, subst, IfOk}
-use Rattle.star_conditions.proofs.Statements.{all-fine}
-use Rattle.star_conditions.proofs.Placings.{still}
+use Rattle.std.proofs.Common.{◌≡◌, List, Result, Ok, Err, arith, le_refl, subst, IfOk}
+use Rattle.star_conditions.proofs.StatementPlaces.{all-fine}
+use Rattle.star_conditions.proofs.ScopesMade.{still}
 use Rattle.star_conditions.proofs.StatementScopes.{all-sound}
-use Rattle.star_conditions.specs.Placed.{VariablesAreThere}
+use Rattle.star_conditions.specs.ScopesRound.{VariablesAreThere}
 use Rattle.star_conditions.specs.Places.{PlacesAreThere}
 use Rattle.star_core.specs.declared.files.File.{File}
 use Rattle.star_grammar.specs.declared.bare_statements.BareStmt.{BareStmt}

@@ -1,10 +1,12 @@
+pub mod ExpressionPlaces
 pub mod ExpressionScopes
-pub mod Expressions
 pub mod Files
-pub mod Making
-pub mod PlacedLayers
+pub mod Items
 pub mod PlaceLayers
-pub mod Placings
+pub mod PlacesMade
+pub mod ScopeLayers
 pub mod ScopesFound
+pub mod ScopesMade
+pub mod StatementPlaces
 pub mod StatementScopes
-pub mod Statements
+pub mod Trees

@@ -1,7 +1,7 @@
 -- The scopes of variables.
-use Rattle.std.proofs.Common.{◌≡◌, ℕ, suc, ◌+◌, ◌≤◌, ◌<◌, Bool, true, false, leb, eqb, T, le→leb, List, [], ◌∷◌, length, Option, Some, None, IfSome, arith, refl}
-use Rattle.star_conditions.specs.Placed.{variable_placed}
-use Rattle.star_names.specs.Variables.{Names, found, found_here, further, place}
+use Rattle.std.proofs.Common.{◌≡◌, ℕ, suc, ◌≤◌, ◌<◌, Bool, true, false, leb, eqb, T, le→leb, List, [], ◌∷◌, length, Option, Some, None, IfSome, arith, refl}
+use Rattle.star_conditions.specs.ScopesRound.{variable_placed}
+use Rattle.star_names.specs.Variables.{Names, found, found_here, place}
 use Rattle.star_scopes.specs.Scopes.{variable, variable_at}
 
 true-of : (b : Bool) → T b → b ≡ true

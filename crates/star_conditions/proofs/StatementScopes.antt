@@ -1,12 +1,12 @@
 -- The scopes round what is made of statements.
-use Rattle.std.proofs.Common.{◌≡◌, ℕ, suc, Bool, true, List, [], ◌∷◌, length, map, Option, Some, None, option_map, refl, ap, ◌∙◌, subst, sym}
+use Rattle.std.proofs.Common.{◌≡◌, ℕ, true, List, ◌∷◌, length, map, Option, Some, None, refl, subst, sym}
 use Rattle.std.proofs.lemmas.Bool.{and_from}
-use Rattle.star_conditions.proofs.Expressions.{With, bare}
+use Rattle.star_conditions.proofs.Trees.{With, bare}
 use Rattle.star_conditions.proofs.ExpressionScopes.{In, is-so, expr-sound, param-sound}
-use Rattle.star_conditions.proofs.PlacedLayers as is
-use Rattle.star_conditions.proofs.Placings.{Known, Keeps, Later, back, again, Good, Always, AllIn, done, bind-good, then, first, only, each-good, each-sure, begin-good, finish-good, load-good}
+use Rattle.star_conditions.proofs.ScopeLayers as is
+use Rattle.star_conditions.proofs.ScopesMade.{back, Always, AllIn, done, bind-good, then, first, only, each-good, each-sure, begin-good, finish-good, load-good}
 use Rattle.star_conditions.proofs.ScopesFound.{variable-placed, eqb-true}
-use Rattle.star_conditions.specs.Placed.{code_in, expr_in, kind_in, param_in, stmt_in, target_in}
+use Rattle.star_conditions.specs.ScopesRound.{code_in, kind_in, param_in, stmt_in}
 use Rattle.star_core.specs.declared.trees.BinOp.{BinOp}
 use Rattle.star_core.specs.declared.trees.Stmt.{roll-Stmt}
 use Rattle.star_core.specs.declared.trees.StmtKind.{StmtKind}
@@ -20,8 +20,8 @@ use Rattle.star_grammar.specs.declared.bare_statements.BareStmtKind.TheOpen.{Bar
 use Rattle.star_grammar.specs.declared.bare_statements.BareStmtKind.{BareStmtKind, fold-roll-BareStmtKind, map-BareStmtKind, roll-BareStmtKind}
 use Rattle.star_names.specs.Variables.{Names}
 use Rattle.star_scopes.specs.ExprMaking.{params_made}
-use Rattle.star_scopes.specs.ExprMeaning.{meaning, param_meaning}
-use Rattle.star_scopes.specs.Making.{pure, finish, load}
+use Rattle.star_scopes.specs.ExprMeaning.{param_meaning}
+use Rattle.star_scopes.specs.Making.{pure, finish}
 use Rattle.star_scopes.specs.Meanings.{KindMeaning, StmtMeaning}
 use Rattle.star_scopes.specs.Scopes.{function_variables, variable}
 use Rattle.star_scopes.specs.StatementMaking.{def_code, load_of, load_made, body_made, if_made, for_made, return_made, assign_made, augment_made, value_made, def_made, kind_made, stmt_made}

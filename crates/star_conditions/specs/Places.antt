@@ -13,7 +13,7 @@ use Rattle.star_core.specs.declared.trees.Expr.{Expr, fold-Expr}
 use Rattle.star_core.specs.declared.trees.ExprPair.{ExprPair, fold-ExprPair}
 use Rattle.star_core.specs.declared.trees.Stmt.{Stmt, fold-Stmt}
 use Rattle.star_core.specs.declared.trees.StmtKind.{StmtKind, fold-StmtKind}
-use Rattle.star_core.specs.declared.trees.StmtKind.TheOpen.{Stmt-F, StmtKind-F}
+use Rattle.star_core.specs.declared.trees.StmtKind.TheOpen.{StmtKind-F}
 use Rattle.star_core.specs.declared.trees.Target.{Target, fold-Target}
 
 -- the greatest of some numbers, 0 where there is none

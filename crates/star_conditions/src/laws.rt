@@ -1,6 +1,6 @@
 //! What every resolved file meets.
 ghost use Rattle.std.specs.Prelude.{◌≡◌, List, Ok};
-ghost use Rattle.star_conditions.specs.Placed.{VariablesAreThere};
+ghost use Rattle.star_conditions.specs.ScopesRound.{VariablesAreThere};
 ghost use Rattle.star_conditions.specs.Places.{PlacesAreThere};
 ghost use Rattle.star_core.specs.declared.files.File.{File};
 ghost use Rattle.star_grammar.specs.declared.bare_statements.BareStmt.{BareStmt};

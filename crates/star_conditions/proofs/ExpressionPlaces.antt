@@ -1,23 +1,23 @@
 -- The places in what is made of expressions.
-use Rattle.std.proofs.Common.{ℕ, ◌+◌, ◌≤◌, List, [], ◌∷◌, map, Option, Some, None, option_map, arith, subst, sym}
-use Rattle.star_conditions.proofs.Making.{Good, pure-good, bind-good, then, done, each-good, begin-good, finish-good, none}
+use Rattle.std.proofs.Common.{ℕ, List, [], ◌∷◌, map, Option, Some, None, option_map, arith, subst, sym}
+use Rattle.star_conditions.proofs.PlacesMade.{Good, bind-good, then, done, each-good, begin-good, finish-good, none}
 use Rattle.star_conditions.proofs.PlaceLayers as is
+use Rattle.star_conditions.proofs.Trees.{With, bare}
 use Rattle.star_conditions.specs.Places.{greatest, number_or_zero, functions_of_arg, functions_of_clause, functions_of_expr, functions_of_pair, functions_of_param, functions_of_target}
 use Rattle.star_core.specs.declared.trees.Arg as arg_tree
 use Rattle.star_core.specs.declared.trees.BinOp.{BinOp}
 use Rattle.star_core.specs.declared.trees.Clause as clause_tree
 use Rattle.star_core.specs.declared.trees.Expr as e
 use Rattle.star_core.specs.declared.trees.Expr.{Expr}
-use Rattle.star_core.specs.declared.trees.ExprPair.{ExprPair, roll-ExprPair}
+use Rattle.star_core.specs.declared.trees.ExprPair.{roll-ExprPair}
 use Rattle.star_core.specs.declared.trees.Target as target_tree
 use Rattle.star_core.specs.declared.trees.UnOp.{UnOp}
-use Rattle.star_core.specs.declared.files.Param.{Param}
 use Rattle.star_core.specs.declared.files.Param.TheVariants as param_tree
-use Rattle.star_grammar.specs.declared.bare_expressions.BareArg.{BareArg, ind-BareArg, fold-roll-BareArg, map-BareArg, roll-BareArg}
+use Rattle.star_grammar.specs.declared.bare_expressions.BareArg.{BareArg, fold-roll-BareArg, map-BareArg, roll-BareArg}
 use Rattle.star_grammar.specs.declared.bare_expressions.BareArg.TheOpen.{BareArg-F, BareClause-F, BareExpr-F, BareParam-F, BarePair-F}
-use Rattle.star_grammar.specs.declared.bare_expressions.BareClause.{BareClause, ind-BareClause, fold-roll-BareClause, map-BareClause, roll-BareClause}
+use Rattle.star_grammar.specs.declared.bare_expressions.BareClause.{BareClause, fold-roll-BareClause, map-BareClause, roll-BareClause}
 use Rattle.star_grammar.specs.declared.bare_expressions.BareExpr.{BareExpr, ind-BareExpr, fold-roll-BareExpr, map-BareExpr, roll-BareExpr}
-use Rattle.star_grammar.specs.declared.bare_expressions.BarePair.{BarePair, ind-BarePair, fold-roll-BarePair, map-BarePair, roll-BarePair}
+use Rattle.star_grammar.specs.declared.bare_expressions.BarePair.{BarePair, fold-roll-BarePair, map-BarePair, roll-BarePair}
 use Rattle.star_grammar.specs.declared.bare_expressions.BareParam.{BareParam, ind-BareParam, fold-roll-BareParam, map-BareParam, roll-BareParam}
 use Rattle.star_names.specs.Variables.{Names}
 use Rattle.star_scopes.specs.ExprMaking.{arg_made, clause_made, expr_made, param_made, target_made, items_made, pairs_made, args_made, params_made, targets_made, maybe_made, list_made, tuple_made, dict_made, more_clauses_made, some_clauses_made, clauses_made, list_comp_made, dict_comp_made, unary_made, binary_made, cond_made, lambda_made, lambda_code, attr_made, index_made, slice_made, call_made, index_target, many_target, named_arg_made, optional_made, pair_made, for_clause_made}
@@ -43,13 +43,6 @@ pub record ParamFine (m : ParamMeaning) : Type 0 where
 
 pub record PairFine (m : PairMeaning) : Type 0 where
   pub pair : (free : Names) (scopes : List Names) → Good 0 0 functions_of_pair none (m.pair free scopes)
-
--- trees of which something holds
-abbrev pub With : {A : Type 0} → (A → Type 0) → Type 0
-With {A} P = (a : A) × P a
-
-abbrev pub bare : {A : Type 0} {P : A → Type 0} → With P → A
-bare a = a.0
 
 abbrev pub FineExpr : Type 0
 FineExpr = With (λ tree. ExprFine (meaning tree))

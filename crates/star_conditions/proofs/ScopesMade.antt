@@ -1,11 +1,11 @@
 -- What is made, when the numbers of scopes round so many functions are known.
-use Rattle.std.proofs.Common.{◌≡◌, ℕ, zero, suc, ◌+◌, ◌≤◌, ◌<◌, Bool, true, ◌&&◌, leb, eqb, List, [], ◌∷◌, length, map, set, get_or, ◌++◌, arith, le_refl, le_trans, lt_of_lt_of_le, length-append, length-set, ◌∙◌, refl, sym, ap}
+use Rattle.std.proofs.Common.{◌≡◌, ℕ, zero, suc, ◌≤◌, ◌<◌, true, List, [], ◌∷◌, length, map, set, get_or, ◌++◌, arith, le_refl, le_trans, lt_of_lt_of_le, length-append, length-set, ◌∙◌, refl, sym}
 use Rattle.std.proofs.lemmas.Bool.{and_from}
-use Rattle.star_conditions.proofs.Making.{Lists}
-use Rattle.star_conditions.specs.Placed.{Placed, each_placed, code_in}
+use Rattle.star_conditions.proofs.Trees.{Lists}
+use Rattle.star_conditions.specs.ScopesRound.{Placed, each_placed, code_in}
 use Rattle.star_core.specs.declared.files.FnCode.{FnCode}
 use Rattle.star_core.specs.declared.loads.Load.{Load}
-use Rattle.star_scopes.specs.Making.{Making, ◌>>=◌, ◌>>◌, pure, each, begin, begun, finish, load}
+use Rattle.star_scopes.specs.Making.{Making, ◌>>=◌, pure, each, begin, begun, finish, load}
 
 -- so many functions, and the number of scopes round each
 pub record Known : Type 0 where

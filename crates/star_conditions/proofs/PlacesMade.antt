@@ -1,17 +1,10 @@
 -- What is made, when the functions and the loads so far are at least so many.
-use Rattle.std.proofs.Common.{ℕ, zero, suc, ◌+◌, ◌≤◌, max, List, [], ◌∷◌, length, map, set, ◌++◌, arith, le_refl, le_trans, length-append, length-set}
+use Rattle.std.proofs.Common.{ℕ, zero, suc, ◌+◌, ◌≤◌, List, [], ◌∷◌, length, map, set, ◌++◌, arith, le_refl, le_trans, length-append, length-set}
 use Rattle.star_conditions.specs.Places.{greatest, functions_of_code, loads_of_code}
+use Rattle.star_conditions.proofs.Trees.{Lists}
 use Rattle.star_core.specs.declared.files.FnCode.{FnCode}
 use Rattle.star_core.specs.declared.loads.Load.{Load}
-use Rattle.star_scopes.specs.Files.{no_lists}
-use Rattle.star_scopes.specs.Making.{Making, ◌>>=◌, ◌>>◌, pure, each, begin, begun, finish, load}
-
-abbrev type_of : {A : Type 0} → A → Type 0
-type_of {A} a = A
-
--- the functions and the loads of a file, as they are made
-abbrev pub Lists : Type 0
-Lists = type_of no_lists
+use Rattle.star_scopes.specs.Making.{Making, ◌>>=◌, pure, each, begin, begun, finish, load}
 
 -- what holds after a value is made: the lists don't shrink, the value speaks of what is there, and so do the functions' codes where they did before
 pub record Fine {A : Type 0} (functions : A → ℕ) (loads : A → ℕ) (before : Lists) (made : A × Lists) : Type 0 where

@@ -1,9 +1,10 @@
 -- The places in what is made of statements.
-use Rattle.std.proofs.Common.{ℕ, ◌+◌, ◌≤◌, List, [], ◌∷◌, map, Option, Some, None, option_map, arith, subst, sym}
-use Rattle.star_conditions.proofs.Expressions.{With, bare, of_each, expr-fine, param-fine}
-use Rattle.star_conditions.proofs.Making.{Good, pure-good, bind-good, then, each-good, each-sure, begin-good, finish-good, load-good, none}
+use Rattle.std.proofs.Common.{ℕ, List, ◌∷◌, map, Option, Some, None, arith, subst, sym}
+use Rattle.star_conditions.proofs.ExpressionPlaces.{of_each, expr-fine, param-fine}
+use Rattle.star_conditions.proofs.Trees.{With, bare}
+use Rattle.star_conditions.proofs.PlacesMade.{Good, pure-good, bind-good, then, each-good, each-sure, begin-good, finish-good, load-good, none}
 use Rattle.star_conditions.proofs.PlaceLayers as is
-use Rattle.star_conditions.specs.Places.{greatest, functions_of_expr, functions_of_kind, functions_of_param, functions_of_stmt, loads_of_kind, loads_of_stmt}
+use Rattle.star_conditions.specs.Places.{functions_of_kind, functions_of_param, functions_of_stmt, loads_of_kind, loads_of_stmt}
 use Rattle.star_core.specs.declared.trees.BinOp.{BinOp}
 use Rattle.star_core.specs.declared.trees.Stmt.{roll-Stmt}
 use Rattle.star_core.specs.declared.trees.StmtKind.{StmtKind}
@@ -17,8 +18,8 @@ use Rattle.star_grammar.specs.declared.bare_statements.BareStmtKind.TheOpen.{Bar
 use Rattle.star_grammar.specs.declared.bare_statements.BareStmtKind.{BareStmtKind, fold-roll-BareStmtKind, map-BareStmtKind, roll-BareStmtKind}
 use Rattle.star_names.specs.Variables.{Names}
 use Rattle.star_scopes.specs.ExprMaking.{params_made}
-use Rattle.star_scopes.specs.ExprMeaning.{meaning, param_meaning}
-use Rattle.star_scopes.specs.Making.{pure, finish, load}
+use Rattle.star_scopes.specs.ExprMeaning.{param_meaning}
+use Rattle.star_scopes.specs.Making.{pure, finish}
 use Rattle.star_scopes.specs.Meanings.{KindMeaning, StmtMeaning}
 use Rattle.star_scopes.specs.Scopes.{function_variables, variable}
 use Rattle.star_scopes.specs.StatementMaking.{def_code, load_of, load_made, body_made, if_made, for_made, return_made, assign_made, augment_made, value_made, def_made, kind_made, stmt_made}

@@ -1,6 +1,6 @@
 -- Which trees of each construct may stand at a place, by which of its parts may.
 use Rattle.std.proofs.Common.{rules, ◌≡◌, ℕ, ℤ, List, map, Option, option_map}
-use Rattle.star_conditions.specs.Placed.{arg_in, arg_placed, clause_in, clause_placed, expr_in, expr_placed, kind_in, kind_placed, pair_in, pair_placed, stmt_in, target_in, target_placed}
+use Rattle.star_conditions.specs.ScopesRound.{arg_in, arg_placed, clause_in, clause_placed, expr_in, expr_placed, kind_in, kind_placed, pair_in, pair_placed, stmt_in, target_in, target_placed}
 use Rattle.star_core.specs.declared.trees.Arg as arg
 use Rattle.star_core.specs.declared.trees.Arg.{Arg}
 use Rattle.star_core.specs.declared.trees.Arg.TheOpen.{Arg-F, Clause-F, Expr-F, Target-F}

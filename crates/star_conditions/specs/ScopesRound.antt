@@ -1,5 +1,5 @@
 -- The scopes that stand round the variables of a file's trees.
-use Rattle.std.specs.Prelude.{◌≡◌, ℕ, suc, Bool, true, ◌&&◌, leb, eqb, List, [], ◌∷◌, length, get_or, map, Option, Some, None, option_map, EachIndex}
+use Rattle.std.specs.Prelude.{◌≡◌, ℕ, suc, Bool, true, ◌&&◌, leb, eqb, List, [], ◌∷◌, get_or, map, Option, Some, None, option_map, EachIndex}
 use Rattle.star_core.specs.declared.files.File.{File}
 use Rattle.star_core.specs.declared.files.FnBody.{FnBody}
 use Rattle.star_core.specs.declared.files.FnBody.TheVariants as body
@@ -13,7 +13,7 @@ use Rattle.star_core.specs.declared.trees.Expr.{Expr, fold-Expr}
 use Rattle.star_core.specs.declared.trees.ExprPair.{ExprPair, fold-ExprPair}
 use Rattle.star_core.specs.declared.trees.Stmt.{Stmt, fold-Stmt}
 use Rattle.star_core.specs.declared.trees.StmtKind.{StmtKind, fold-StmtKind}
-use Rattle.star_core.specs.declared.trees.StmtKind.TheOpen.{Stmt-F, StmtKind-F}
+use Rattle.star_core.specs.declared.trees.StmtKind.TheOpen.{StmtKind-F}
 use Rattle.star_core.specs.declared.trees.Target.{Target, fold-Target}
 use Rattle.star_core.specs.declared.trees.Var.{Var}
 use Rattle.star_scopes.specs.Making.{begun}
