@@ -1,0 +1,12 @@
+pub mod ExpressionPlaces
+pub mod ExpressionScopes
+pub mod Files
+pub mod Items
+pub mod PlaceLayers
+pub mod PlacesMade
+pub mod ScopeLayers
+pub mod ScopesFound
+pub mod ScopesMade
+pub mod StatementPlaces
+pub mod StatementScopes
+pub mod Trees

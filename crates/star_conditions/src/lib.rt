@@ -1,0 +1,4 @@
+//! What every resolved file meets.
+#![tactic(auto)]
+
+pub mod laws;
