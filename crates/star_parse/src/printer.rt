@@ -101,6 +101,14 @@ fn tell(told: &mut Writing, tree: &BareExpr) -> Result<(), AllocError> {
             tell(told, inner.get())?;
             told.put(")")
         }
+        _ => tell_operation(told, tree),
+    }
+}
+
+/// Operators over their operands.
+#[cycle(telling)]
+fn tell_operation(told: &mut Writing, tree: &BareExpr) -> Result<(), AllocError> {
+    match tree {
         BareExpr::Unary { op, of } => {
             told.open(unary_word(*op))?;
             tell(told, of.get())?;
@@ -122,6 +130,14 @@ fn tell(told: &mut Writing, tree: &BareExpr) -> Result<(), AllocError> {
             tell(told, other.get())?;
             told.put(")")
         }
+        _ => tell_rest(told, tree),
+    }
+}
+
+/// Functions, and what stands behind an operand.
+#[cycle(telling)]
+fn tell_rest(told: &mut Writing, tree: &BareExpr) -> Result<(), AllocError> {
+    match tree {
         BareExpr::Lambda { params, body, line } => {
             told.put("(lambda")?;
             told.line(*line)?;
@@ -162,6 +178,7 @@ fn tell(told: &mut Writing, tree: &BareExpr) -> Result<(), AllocError> {
             tell(told, function.get())?;
             tell_args(told, args.as_slice())
         }
+        _ => Ok(()),
     }
 }
 

@@ -1,5 +1,6 @@
 //! Small files beside the scopes and slots of their names, worked out by hand.
 use crate::parse::{ParseFault, parse_bzl, parse_module};
+use crate::tree_table::repeated;
 use crate::variables::variables;
 use bz_base::{May, Miss};
 use star_core::File;
@@ -55,6 +56,18 @@ fn names_of_extensions_are_variables(rt: HostRuntime) -> Result<(), Fail> {
             "#0 f@0.0 ; | #1 g@0.1 ; g@0.1 ; | a@1.0 b@0.0 ; |",
         ),
         ("f = lambda a = lambda: 1: a", "f@0.0 #0 ; | #1 a@0.0 | |"),
+    ];
+    for (text, want) in cases {
+        let got = told(alloc, parse_bzl(alloc, text))?;
+        assert_eq!(rt; got.as_str(), want, "at {text}");
+    }
+    Ok(())
+}
+
+#[test]
+fn statements_bind_and_use_in_the_order_of_the_text(rt: HostRuntime) -> Result<(), Fail> {
+    let alloc = rt.alloc();
+    let cases = [
         (
             "load('//:a.bzl', 'b', c = 'd')\nx = c",
             "#0 ; x@0.2 c@0.1 ; |",
@@ -127,6 +140,25 @@ fn refused_forms_come_before_unbound_names(rt: HostRuntime) -> Result<(), Fail> 
     for (text, want) in modules {
         let got = told(alloc, parse_module(alloc, text))?;
         assert_eq!(rt; got.as_str(), want, "at {text}");
+    }
+    Ok(())
+}
+
+#[test]
+fn deepest_files_are_resolved(rt: HostRuntime) -> Result<(), Fail> {
+    let alloc = rt.alloc();
+    let cases = [
+        ("(", "1", ")"),
+        ("[", "1", "]"),
+        ("1+", "1", ""),
+        ("{1:", "1", "}"),
+        ("lambda: ", "1", ""),
+        ("[1 for i in ", "[]", "]"),
+    ];
+    for (front, middle, back) in cases {
+        let text = repeated(alloc, front, 126, middle, back)?;
+        let file = parse_bzl(alloc, text.as_str());
+        assert!(rt; file.is_ok(), "at {front}");
     }
     Ok(())
 }

@@ -16,7 +16,7 @@ fn told(alloc: Global, text: &str) -> Result<String, AllocError> {
 }
 
 #[test]
-fn productions_give_their_trees(rt: HostRuntime) -> Result<(), Fail> {
+fn expressions_give_their_trees(rt: HostRuntime) -> Result<(), Fail> {
     let alloc = rt.alloc();
     let cases = [
         ("", ""),
@@ -60,6 +60,18 @@ fn productions_give_their_trees(rt: HostRuntime) -> Result<(), Fail> {
         ),
         ("(x) = 1", "@1 (= (round x) 1);"),
         ("(x,) = y", "@1 (= (tuple x) y);"),
+    ];
+    for (text, want) in cases {
+        let got = told(alloc, text)?;
+        assert_eq!(rt; got.as_str(), want, "at {text}");
+    }
+    Ok(())
+}
+
+#[test]
+fn statements_give_their_trees(rt: HostRuntime) -> Result<(), Fail> {
+    let alloc = rt.alloc();
+    let cases = [
         ("x[0] += 1", "@1 augment (+ (index x 0) 1);"),
         (
             "(x)[0] >>= 1, 2",
@@ -97,18 +109,45 @@ fn productions_give_their_trees(rt: HostRuntime) -> Result<(), Fail> {
 }
 
 #[test]
-fn other_texts_have_no_tree(rt: HostRuntime) -> Result<(), Fail> {
+fn other_expressions_have_no_tree(rt: HostRuntime) -> Result<(), Fail> {
     let alloc = rt.alloc();
     let cases = [
         "x = 1 < 2 < 3",
-        "x = 1,",
-        "x, = y",
         "x[1,]",
         "f(a = 1, 2)",
         "f(a = 1, a = 2)",
         "f(*a, *b)",
         "f(*a, b = 1)",
         "f(a for a in b)",
+        "'a' 'b'",
+        "def f(a = 1, b): pass",
+        "lambda x,: x",
+        "lambda a, a: 1",
+        "a if b",
+        "(1",
+        "1)",
+        "[1 2]",
+        "{1}",
+        "{1: 2, 3}",
+        "a.1",
+        "a..b",
+        "not",
+        "a not b",
+        "x y",
+    ];
+    for text in cases {
+        let got = told(alloc, text)?;
+        assert_eq!(rt; got.as_str(), "syntax", "at {text}");
+    }
+    Ok(())
+}
+
+#[test]
+fn other_statements_have_no_tree(rt: HostRuntime) -> Result<(), Fail> {
+    let alloc = rt.alloc();
+    let cases = [
+        "x = 1,",
+        "x, = y",
         "return",
         "break",
         "if a: break",
@@ -116,7 +155,6 @@ fn other_texts_have_no_tree(rt: HostRuntime) -> Result<(), Fail> {
         "if a: load('b', 'c')",
         "def f(): load('b', 'c')",
         "if = 1",
-        "'a' 'b'",
         "(x) += 1",
         "(x[0]) += 1",
         "x, y += 1",
@@ -127,27 +165,13 @@ fn other_texts_have_no_tree(rt: HostRuntime) -> Result<(), Fail> {
         "for a in b,: pass",
         "for x.y in z: pass",
         "def f(a, a): pass",
-        "def f(a = 1, b): pass",
         "def f(**a, b): pass",
         "def f(*a, *b): pass",
-        "lambda x,: x",
-        "lambda a, a: 1",
-        "a if b",
         "if a: if b: pass",
         "else: pass",
         "class x: pass",
         "x = import",
-        "(1",
-        "1)",
-        "[1 2]",
-        "{1}",
-        "{1: 2, 3}",
-        "a.1",
-        "a..b",
-        "not",
-        "a not b",
         "  x",
-        "x y",
         ";",
         "x;;y",
     ];
@@ -155,19 +179,24 @@ fn other_texts_have_no_tree(rt: HostRuntime) -> Result<(), Fail> {
         let got = told(alloc, text)?;
         assert_eq!(rt; got.as_str(), "syntax", "at {text}");
     }
-    let got = told(alloc, "01")?;
+    Ok(())
+}
+
+#[test]
+fn a_text_without_tokens_has_no_tree(rt: HostRuntime) -> Result<(), Fail> {
+    let got = told(rt.alloc(), "01")?;
     assert_eq!(rt; got.as_str(), "lex");
     Ok(())
 }
 
-/// Whether a text of these parts, the first and the last so many times, has a tree.
-fn is_read(
+/// A text of these parts, the first and the last so many times.
+pub(crate) fn repeated(
     alloc: Global,
     front: &str,
     times: u64,
     middle: &str,
     back: &str,
-) -> Result<bool, AllocError> {
+) -> Result<String, AllocError> {
     let mut text = String::new(alloc);
     for _ in 0..times {
         text.push_str(front)?;
@@ -176,6 +205,18 @@ fn is_read(
     for _ in 0..times {
         text.push_str(back)?;
     }
+    Ok(text)
+}
+
+/// Whether a text of these parts has a tree.
+fn is_read(
+    alloc: Global,
+    front: &str,
+    times: u64,
+    middle: &str,
+    back: &str,
+) -> Result<bool, AllocError> {
+    let text = repeated(alloc, front, times, middle, back)?;
     Ok(tree(alloc, text.as_str()).is_ok())
 }
 

@@ -54,6 +54,14 @@ fn expr(told: &mut Telling, tree: &Expr) -> Result<(), AllocError> {
             expr(told, value.get())?;
             each_clause(told, clauses.as_slice())
         }
+        _ => operation(told, tree),
+    }
+}
+
+/// Operators, functions, and what stands behind an operand.
+#[cycle(telling)]
+fn operation(told: &mut Telling, tree: &Expr) -> Result<(), AllocError> {
+    match tree {
         Expr::Unary { op: _, of } => expr(told, of.get()),
         Expr::Binary { op: _, left, right } => {
             expr(told, left.get())?;
@@ -85,6 +93,7 @@ fn expr(told: &mut Telling, tree: &Expr) -> Result<(), AllocError> {
             expr(told, function.get())?;
             each_arg(told, args.as_slice())
         }
+        _ => Ok(()),
     }
 }
 
