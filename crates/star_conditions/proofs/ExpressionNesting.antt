@@ -284,7 +284,7 @@ pub deeper-pair : (n m : ℕ) (tree : BarePair) → n ≤ m → PairNested n tre
 deeper-pair n m tree below so = record { pair = λ free scopes. raised depth_of_pair n m _ below (so.pair free scopes) }
 
 -- a pair by its parts
-pair_meaning-roll : (key value : BareExpr) → pair_meaning (roll-BarePair (record { key = key; value = value })) ≡ pair_step (record { key = meaning key; value = meaning value })
+pub pair_meaning-roll : (key value : BareExpr) → pair_meaning (roll-BarePair (record { key = key; value = value })) ≡ pair_step (record { key = meaning key; value = meaning value })
 unfolding meaning arg_meaning clause_meaning param_meaning pair_meaning
 pair_meaning-roll key value = search (rules, the_lemmas)
 

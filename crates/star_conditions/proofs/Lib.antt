@@ -1,8 +1,13 @@
+pub mod BareForms
+pub mod ExpressionForms
 pub mod ExpressionNesting
 pub mod ExpressionPlaces
 pub mod ExpressionScopes
 pub mod Files
+pub mod FilesFormed
 pub mod FilesNested
+pub mod FormLayers
+pub mod FormsMade
 pub mod Items
 pub mod Made
 pub mod NestingLayers
@@ -13,6 +18,7 @@ pub mod ScopesFound
 pub mod ScopesMade
 pub mod Spelled
 pub mod SpelledParts
+pub mod StatementForms
 pub mod StatementNesting
 pub mod StatementPlaces
 pub mod StatementScopes

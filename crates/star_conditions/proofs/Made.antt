@@ -46,6 +46,10 @@ module _ (Code : FnCode → Type 0) where
   pub makes-also : {A : Type 0} {Value Other : A → Type 0} {making : Making A} → ((a : A) → Value a → Other a) → Makes Value making → Makes Other making
   makes-also {making} follows first = record { value = λ lists. follows (making lists).0 (first.value lists); added = first.added }
 
+  -- both of two conditions on a value
+  pub makes-both : {A : Type 0} {Value Other : A → Type 0} {making : Making A} → Makes Value making → Makes Other making → Makes (λ a. Value a × Other a) making
+  makes-both first second = record { value = λ lists. (first.value lists, second.value lists); added = first.added }
+
   pub each-makes : {A B C : Type 0} (Item : C → Type 0) (Value : C → A → Type 0) (make : B → Making A) (means : C → B) → ((c : C) → Item c → Makes (Value c) (make (means c)))
       → (items : List C) → All Item items → Makes (λ made. AllZip Value items made) (each (map make (map means items)))
   each-makes Item Value make means makes [] all = pure-makes [] tt

@@ -74,7 +74,7 @@ pub record ExpressionsKeep (holds : Conditions) : Type 0 where
   pub named : (n : ℕ) (name : List ℕ) (value : BareExpr) → holds.expr n value → holds.arg n (arg.Named name value)
   pub star : (n : ℕ) (value : BareExpr) (line : ℕ) → holds.expr n value → holds.arg n (arg.Star value line)
   pub double_star : (n : ℕ) (value : BareExpr) (line : ℕ) → holds.expr n value → holds.arg n (arg.DoubleStar value line)
-  pub for_clause : (n : ℕ) (to over : BareExpr) → holds.expr n to → holds.expr n over → holds.clause n (clause.For to over)
+  pub for_clause : (n : ℕ) (to over : BareExpr) → is_target to ≡ true → holds.expr n to → holds.expr n over → holds.clause n (clause.For to over)
   pub if_clause : (n : ℕ) (test : BareExpr) → holds.expr n test → holds.clause n (clause.If test)
   pub required : (name : List ℕ) → holds.param 1 (param.Required name)
   pub optional : (n : ℕ) (name : List ℕ) (default : BareExpr) → holds.expr n default → holds.param n (param.Optional name default)
@@ -186,11 +186,12 @@ module _ (holds : Conditions) (keep : ExpressionsKeep holds) where
   module _ (Nested : Level → Rule Tree) (nested-held : (what : Level) → Reads (Nested what) ExprHeld) where
     ForClause-held : Reads (g.ForClause Nested) (λ a. Held holds.clause a × ForFirst (a.0 ∷ []))
     ForClause-held i a r (g.ForClause.loop {i = j} {j = k} {to} {over} so also) =
-        let one = (Vars-held (Nested level.Primary) (nested-held level.Primary) j to _ so).held in
+        let target = Vars-held (Nested level.Primary) (nested-held level.Primary) j to _ so in
+        let one = target.held in
         let two = nested-held level.Disjunction k over r also in
         let first = one.shallow in
         let second = two.shallow in
-        (record { shallow = omega (arith, first, second); so = keep.for_clause (max to.1 over.1) to.0 over.0 (raised to.1 _ to.0 (omega arith) one.so) (raised over.1 _ over.0 (omega arith) two.so) }, ForFirst.for_first)
+        (record { shallow = omega (arith, first, second); so = keep.for_clause (max to.1 over.1) to.0 over.0 target.target (raised to.1 _ to.0 (omega arith) one.so) (raised over.1 _ over.0 (omega arith) two.so) }, ForFirst.for_first)
 
     AnyClause-held : Reads (g.AnyClause Nested) (Held holds.clause)
     AnyClause-held i a r (g.AnyClause.loop so) = (ForClause-held i a r so).0

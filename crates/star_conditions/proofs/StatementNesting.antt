@@ -103,7 +103,7 @@ stmt-nested n kind line free scopes so = bind-makes Shallow (so.kind line free s
 
 -- ---- what is made of each statement
 
-stmt_meaning-roll : (line : ℕ) (kind : BareStmtKind) → stmt_meaning (roll-BareStmt (record { line = line; kind = kind })) ≡ stmt_step (record { line = line; kind = kind_meaning kind })
+pub stmt_meaning-roll : (line : ℕ) (kind : BareStmtKind) → stmt_meaning (roll-BareStmt (record { line = line; kind = kind })) ≡ stmt_step (record { line = line; kind = kind_meaning kind })
 unfolding kind_meaning stmt_meaning
 stmt_meaning-roll line kind = search (rules, the_lemmas)
 

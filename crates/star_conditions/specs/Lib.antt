@@ -1,3 +1,4 @@
 pub mod Nesting
+pub mod Orders
 pub mod Places
 pub mod ScopesRound

@@ -1,6 +1,7 @@
 //! What every resolved file meets.
 ghost use Rattle.std.specs.Prelude.{◌≡◌, ℕ, List, Ok};
 ghost use Rattle.star_conditions.specs.Nesting.{NestedWithin};
+ghost use Rattle.star_conditions.specs.Orders.{HasNoRefusedForm};
 ghost use Rattle.star_conditions.specs.ScopesRound.{VariablesAreThere};
 ghost use Rattle.star_conditions.specs.Places.{PlacesAreThere};
 ghost use Rattle.star_core.specs.declared.files.File.{File};
@@ -23,4 +24,9 @@ pub fn variables_are_there()
 /// No tree of a file that is spelled and resolved, and no function of it, is nested deeper than the grammar allows.
 pub fn trees_are_nested_at_most_128_deep()
     ensures { (dialect : Dialect) (text : List ℕ) (tree : BareFile) (file : File) → Spelled text tree → resolved dialect tree.body ≡ Ok file → NestedWithin 128 file }
+{}
+
+/// A file that is spelled and resolved has no form that the grammar refuses: arguments and parameters stand in order, no name of them stands twice, and each statement stands where it may.
+pub fn no_refused_form_is_there()
+    ensures { (dialect : Dialect) (text : List ℕ) (tree : BareFile) (file : File) → Spelled text tree → resolved dialect tree.body ≡ Ok file → HasNoRefusedForm file }
 {}
