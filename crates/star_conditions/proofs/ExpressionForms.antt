@@ -7,7 +7,7 @@ use Rattle.star_conditions.proofs.ExpressionNesting.{pair_meaning-roll}
 use Rattle.star_conditions.proofs.FormLayers as is
 use Rattle.star_conditions.proofs.FormsMade.{ParamMade, ParamsRight, all_of-zipped, arg_as, arg_formed, args-made, clause_as, clause_formed, clauses-made, formed, looped, map-zipped, params-made, some_and_all-zipped, targets-each}
 use Rattle.star_conditions.proofs.Made.{Makes, pure-makes, bind-makes, makes-also, each-makes, function-makes}
-use Rattle.star_conditions.proofs.Spelled.{ForFirst}
+use Rattle.star_conditions.proofs.Conditions.{ForFirst}
 use Rattle.star_conditions.specs.Orders.{ArgForm, ClauseForm, are_clauses, form_of_arg, form_of_clause, is_place, maybe_right, right_code, right_expr, right_pair, right_param, right_target}
 use Rattle.star_conditions.specs.Orders as form
 use Rattle.star_core.specs.declared.files.FnCode.{FnCode}

@@ -5,7 +5,7 @@ use Rattle.std.proofs.lemmas.List.Elements.{All-head, All-tail}
 use Rattle.star_conditions.proofs.ExpressionPlaces.{of_each}
 use Rattle.star_conditions.proofs.Made.{Makes, pure-makes, bind-makes, makes-also, each-makes, function-makes}
 use Rattle.star_conditions.proofs.NestingLayers as is
-use Rattle.star_conditions.proofs.Spelled.{ForFirst}
+use Rattle.star_conditions.proofs.Conditions.{ForFirst}
 use Rattle.star_conditions.specs.Nesting.{depth_of_arg, depth_of_clause, depth_of_code, depth_of_expr, depth_of_pair, depth_of_param, depth_of_target}
 use Rattle.star_conditions.specs.Places.{greatest, number_or_zero}
 use Rattle.star_core.specs.declared.trees.Arg as arg_tree

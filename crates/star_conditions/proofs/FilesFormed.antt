@@ -5,7 +5,8 @@ use Rattle.std.proofs.lemmas.List.Elements.{All-head, All-same, All-tail}
 use Rattle.star_conditions.proofs.ExpressionForms as expression
 use Rattle.star_conditions.proofs.ExpressionForms.{RightCode, right, ExprRight, ArgRight, ClauseRight, ParamRight, PairRight}
 use Rattle.star_conditions.proofs.FormLayers as is
-use Rattle.star_conditions.proofs.Spelled.{Conditions, ExpressionsKeep, StatementsKeep, IsFile-held}
+use Rattle.star_conditions.proofs.Conditions.{Conditions, ExpressionsKeep, StatementsKeep}
+use Rattle.star_conditions.proofs.SpelledStatements.{IsFile-held}
 use Rattle.star_conditions.proofs.StatementForms as statement
 use Rattle.star_conditions.proofs.StatementForms.{StmtRight, body-right, on_line-right}
 use Rattle.star_conditions.specs.Orders.{HasNoRefusedForm, right_code}

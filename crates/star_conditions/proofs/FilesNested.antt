@@ -3,7 +3,8 @@ use Rattle.std.proofs.Common.{◌≡◌, ℕ, ◌≤◌, List, [], ◌∷◌, ma
 use Rattle.std.proofs.lemmas.List.Elements.{All-head, All-same, All-tail}
 use Rattle.star_conditions.proofs.ExpressionNesting as expression
 use Rattle.star_conditions.proofs.ExpressionNesting.{Shallow, ExprNested, ArgNested, ClauseNested, ParamNested, PairNested}
-use Rattle.star_conditions.proofs.Spelled.{Conditions, ExpressionsKeep, StatementsKeep, IsFile-held}
+use Rattle.star_conditions.proofs.Conditions.{Conditions, ExpressionsKeep, StatementsKeep}
+use Rattle.star_conditions.proofs.SpelledStatements.{IsFile-held}
 use Rattle.star_conditions.proofs.StatementNesting as statement
 use Rattle.star_conditions.proofs.StatementNesting.{StmtNested, body-nested}
 use Rattle.star_conditions.specs.Nesting.{NestedWithin, depth_of_code}

@@ -3,7 +3,7 @@ use Rattle.std.proofs.Common.{rules, ◌≡◌, ℕ, Bool, true, false, ◌&&◌
 use Rattle.std.proofs.lemmas.Bool.{and_from, and_parts, false≢true}
 use Rattle.std.proofs.lemmas.List.Elements.{All-cons, All-head, All-nil, All-tail}
 use Rattle.std.specs.List.{AllZip}
-use Rattle.star_conditions.proofs.Spelled.{ForFirst}
+use Rattle.star_conditions.proofs.Conditions.{ForFirst}
 use Rattle.star_conditions.specs.Orders as form
 use Rattle.star_conditions.specs.Orders.{ArgForm, ClauseForm, given, right_param}
 use Rattle.star_core.specs.declared.files.Param.{Param}

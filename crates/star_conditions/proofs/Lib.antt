@@ -1,4 +1,5 @@
 pub mod BareForms
+pub mod Conditions
 pub mod ExpressionForms
 pub mod ExpressionNesting
 pub mod ExpressionPlaces
@@ -16,8 +17,9 @@ pub mod PlacesMade
 pub mod ScopeLayers
 pub mod ScopesFound
 pub mod ScopesMade
-pub mod Spelled
+pub mod SpelledExpressions
 pub mod SpelledParts
+pub mod SpelledStatements
 pub mod StatementForms
 pub mod StatementNesting
 pub mod StatementPlaces

@@ -52,11 +52,13 @@ expr_depth (Expr-F.Call function args) = max function (greatest args) + 1
 abbrev pub pair_depth : ExprPair-F ℕ ℕ ℕ ℕ ℕ → ℕ
 pair_depth pair = max pair.key pair.value
 
+-- a name counts 1, as in an expression
 abbrev pub target_depth : Target-F ℕ ℕ ℕ ℕ ℕ → ℕ
 target_depth (Target-F.Target::Name name) = 1
 target_depth (Target-F.Target::Index container at) = max container at + 1
 target_depth (Target-F.Many targets) = greatest targets + 1
 
+-- the depth of each tree of an expression
 unfoldable pub depth_of_arg : Arg → ℕ
 depth_of_arg = fold-Arg ℕ ℕ ℕ ℕ ℕ arg_depth clause_depth expr_depth target_depth pair_depth
 
@@ -72,6 +74,7 @@ depth_of_pair = fold-ExprPair ℕ ℕ ℕ ℕ ℕ arg_depth clause_depth expr_de
 unfoldable pub depth_of_target : Target → ℕ
 depth_of_target = fold-Target ℕ ℕ ℕ ℕ ℕ arg_depth clause_depth expr_depth target_depth pair_depth
 
+-- a statement by what it says
 abbrev pub kind_depth : StmtKind-F ℕ ℕ → ℕ
 kind_depth (StmtKind-F.Def place to) = 1
 kind_depth (StmtKind-F.If test chosen other) = max (depth_of_expr test) (max (greatest chosen) (greatest other)) + 1
@@ -85,12 +88,14 @@ kind_depth (StmtKind-F.Assign to value) = max (depth_of_target to) (depth_of_exp
 kind_depth (StmtKind-F.Augment place op value) = max (depth_of_expr place) (depth_of_expr value) + 1
 kind_depth (StmtKind-F.Value value) = depth_of_expr value + 1
 
+-- the depth of a statement, and of what it says
 unfoldable pub depth_of_stmt : Stmt → ℕ
 depth_of_stmt = fold-Stmt ℕ ℕ kind_depth (λ stmt. stmt.kind)
 
 unfoldable pub depth_of_kind : StmtKind → ℕ
 depth_of_kind = fold-StmtKind ℕ ℕ kind_depth (λ stmt. stmt.kind)
 
+-- a parameter without a default counts 1
 abbrev pub depth_of_param : Param → ℕ
 depth_of_param (param.Required name) = 1
 depth_of_param (param.Optional name default) = depth_of_expr default
@@ -98,6 +103,7 @@ depth_of_param param.Bare = 1
 depth_of_param (param.Rest name) = 1
 depth_of_param (param.Keywords name) = 1
 
+-- a block is as deep as its deepest statement
 abbrev pub depth_of_body : FnBody → ℕ
 depth_of_body (body.Block statements) = greatest (map depth_of_stmt statements)
 depth_of_body (body.Value value) = depth_of_expr value

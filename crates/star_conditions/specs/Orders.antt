@@ -1,4 +1,4 @@
--- The forms that the grammar refuses, where resolved trees have none: the order of arguments and parameters, names that stand twice, and what may stand only in a function, in a loop or at the top. The Starlark specification, "Function and method calls", "Function definitions", "Assignments", "Statements".
+-- What the grammar asks of trees besides, asked of resolved files: the order of arguments and parameters, names that differ, and what may stand only in a function, in a loop or at the top. The Starlark specification, "Function and method calls", "Function definitions", "Assignments", "Statements".
 use Rattle.std.specs.Prelude.{◌≡◌, ℕ, Bool, true, false, ◌&&◌, ◌==◌, nat_le, if◌then◌else◌, List, [], ◌∷◌, map, Option, Some, None, option_map}
 use Rattle.star_core.specs.declared.files.File.{File}
 use Rattle.star_core.specs.declared.files.FnBody.{FnBody}
@@ -32,6 +32,7 @@ pub record ArgForm : Type 0 where
   pub name : Option (List ℕ)
   pub right : Bool
 
+-- each stage may follow the one before it
 abbrev pub stages_in_order : ℕ → List ℕ → Bool
 stages_in_order last [] = true
 stages_in_order last (stage ∷ stages) = may_follow last stage && stages_in_order stage stages
@@ -47,27 +48,33 @@ pub record ClauseForm : Type 0 where
   pub loops : Bool
   pub right : Bool
 
+-- a `for` comes first
 abbrev pub first_loops : List ClauseForm → Bool
 first_loops [] = false
 first_loops (first ∷ more) = first.loops
 
+-- the clauses of a comprehension: a `for` first, and each of them right
 abbrev pub are_clauses : List ClauseForm → Bool
 are_clauses clauses = first_loops clauses && all_of (map (λ clause. clause.right) clauses)
 
+-- what isn't there is right
 abbrev pub maybe_right : Option Bool → Bool
 maybe_right None = true
 maybe_right (Some right) = right
 
+-- an argument's form by its value
 abbrev pub arg_form : Arg-F ArgForm ClauseForm Bool Bool Bool → ArgForm
 arg_form (Arg-F.Positional value) = record { stage = 0; name = None; right = value }
 arg_form (Arg-F.Named name value) = record { stage = 1; name = Some name; right = value }
 arg_form (Arg-F.Star value) = record { stage = 2; name = None; right = value }
 arg_form (Arg-F.DoubleStar value) = record { stage = 3; name = None; right = value }
 
+-- a clause's form by its parts
 abbrev pub clause_form : Clause-F ArgForm ClauseForm Bool Bool Bool → ClauseForm
 clause_form (Clause-F.For to over) = record { loops = true; right = to && over }
 clause_form (Clause-F.If test) = record { loops = false; right = test }
 
+-- the arguments of each call are in order, and each comprehension has a `for` as its first clause
 abbrev pub expr_right : Expr-F ArgForm ClauseForm Bool Bool Bool → Bool
 expr_right (Expr-F.Expr::Name variable) = true
 expr_right (Expr-F.Int value) = true
@@ -86,6 +93,7 @@ expr_right (Expr-F.Expr::Index container at) = container && at
 expr_right (Expr-F.Slice container begin end step) = container && (maybe_right begin && (maybe_right end && maybe_right step))
 expr_right (Expr-F.Call function args) = function && (are_args args && all_of (map (λ arg. arg.right) args))
 
+-- both parts are right
 abbrev pub pair_right : ExprPair-F ArgForm ClauseForm Bool Bool Bool → Bool
 pair_right pair = pair.key && pair.value
 
@@ -95,6 +103,7 @@ target_right (Target-F.Target::Name name) = true
 target_right (Target-F.Target::Index container at) = container && at
 target_right (Target-F.Many targets) = some_and_all targets
 
+-- the form of each tree of an expression
 unfoldable pub form_of_arg : Arg → ArgForm
 form_of_arg = fold-Arg ArgForm ClauseForm Bool Bool Bool arg_form clause_form expr_right target_right pair_right
 
@@ -112,12 +121,13 @@ right_target = fold-Target ArgForm ClauseForm Bool Bool Bool arg_form clause_for
 
 -- ---- statements
 
+-- whether an expression, opened once, is a name or an index
 abbrev pub is_place_layer : Expr-F Arg Clause Expr Target ExprPair → Bool
 is_place_layer (Expr-F.Expr::Name variable) = true
 is_place_layer (Expr-F.Expr::Index container at) = true
 is_place_layer _ = false
 
--- a name or an index
+-- the place of an augmented assignment
 unfoldable pub is_place : Expr → Bool
 is_place expression = is_place_layer (out-Expr expression)
 
@@ -126,6 +136,7 @@ abbrev pub all_stand : List (Inside → Bool) → Inside → Bool
 all_stand [] inside = true
 all_stand (one ∷ more) inside = one inside && all_stand more inside
 
+-- `return` stands in a function, `break` and `continue` in a loop of the same function, and `load` at the top
 abbrev pub kind_stands : StmtKind-F (Inside → Bool) (Inside → Bool) → Inside → Bool
 kind_stands (StmtKind-F.Def place to) inside = true
 kind_stands (StmtKind-F.If test chosen other) inside = right_expr test && (all_stand chosen (in_branch inside) && all_stand other (in_branch inside))
@@ -139,9 +150,11 @@ kind_stands (StmtKind-F.Assign to value) inside = right_target to && right_expr 
 kind_stands (StmtKind-F.Augment place op value) inside = is_place place && (right_expr place && right_expr value)
 kind_stands (StmtKind-F.Value value) inside = right_expr value
 
+-- whether a statement may stand inside what stands round it
 unfoldable pub stands : Stmt → Inside → Bool
 stands = fold-Stmt (Inside → Bool) (Inside → Bool) kind_stands (λ stmt. stmt.kind)
 
+-- the same of what a statement says
 unfoldable pub stands_as : StmtKind → Inside → Bool
 stands_as = fold-StmtKind (Inside → Bool) (Inside → Bool) kind_stands (λ stmt. stmt.kind)
 
@@ -155,11 +168,13 @@ param_stage last param.Bare = if nat_le last 1 then Some 2 else None
 param_stage last (param.Rest name) = if nat_le last 1 then Some 2 else None
 param_stage last (param.Keywords name) = if nat_le last 3 then Some 4 else None
 
+-- each parameter may stand at the stage that is reached
 abbrev pub params_in_order : Option ℕ → List Param → Bool
 params_in_order None params = false
 params_in_order (Some last) [] = true
 params_in_order (Some last) (param ∷ params) = params_in_order (param_stage last param) params
 
+-- the name of a parameter that has one
 abbrev pub param_name : Param → Option (List ℕ)
 param_name (param.Required name) = Some name
 param_name (param.Optional name default) = Some name
@@ -171,6 +186,7 @@ param_name (param.Keywords name) = Some name
 unfoldable pub are_params : List Param → Bool
 are_params params = params_in_order (Some 0) params && all_different (given (map param_name params))
 
+-- a parameter's default is right
 abbrev pub right_param : Param → Bool
 right_param (param.Required name) = true
 right_param (param.Optional name default) = right_expr default
@@ -185,6 +201,7 @@ right_body (Some name) (body.Value value) = false
 right_body None (body.Block statements) = false
 right_body None (body.Value value) = right_expr value
 
+-- the parameters are in order, their defaults are right, and so is the body
 abbrev pub right_code : FnCode → Bool
 right_code code = are_params code.params && (all_of (map right_param code.params) && right_body code.name code.body)
 
