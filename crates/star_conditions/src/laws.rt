@@ -1,6 +1,6 @@
 //! What every resolved file meets.
 ghost use Rattle.std.specs.Prelude.{◌≡◌, List, Ok};
-ghost use Rattle.star_conditions.specs.ScopesRound.{VariablesAreThere};
+ghost use Rattle.star_conditions.specs.Counted.{VariablesAreCounted};
 ghost use Rattle.star_conditions.specs.Places.{PlacesAreThere};
 ghost use Rattle.star_core.specs.declared.files.File.{File};
 ghost use Rattle.star_grammar.specs.declared.bare_statements.BareStmt.{BareStmt};
@@ -12,7 +12,7 @@ pub fn places_are_there()
     ensures { (dialect : Dialect) (body : List BareStmt) (file : File) → resolved dialect body ≡ Ok file → PlacesAreThere file }
 {}
 
-/// Each variable of a resolved file is one of a scope that stands round it, or a free name.
-pub fn variables_are_there()
-    ensures { (dialect : Dialect) (body : List BareStmt) (file : File) → resolved dialect body ≡ Ok file → VariablesAreThere file }
+/// Each variable of a resolved file stands at the scope and the slot that its name has there, counted again from the file's trees.
+pub fn variables_are_counted()
+    ensures { (dialect : Dialect) (body : List BareStmt) (file : File) → resolved dialect body ≡ Ok file → VariablesAreCounted file }
 {}
