@@ -4,6 +4,7 @@ use Rattle.std.proofs.lemmas.Bool.{and_from}
 use Rattle.star_conditions.proofs.CountLayers as is
 use Rattle.star_conditions.proofs.CountsMade.{Whole, back, Always, Pairwise, Fits, done, bind-good, then, first, only, each-good, each-counted, all-fit, all-bound, begin-good, finish-good}
 use Rattle.star_conditions.proofs.FreeUses.{Covered, Grows, Keeps, binds-keep, both-grow, each-grows, each-of, first-covered, name_uses-grows, name-covered, no_use-grows, second-covered, with_binding-within, within-self}
+use Rattle.star_conditions.proofs.MeaningInduction.{ArgParts, ClauseParts, ExprParts, ParamParts, PairParts, meant-arg, meant-clause, meant-expr, meant-param, meant-pair, of-expr, of-param}
 use Rattle.star_conditions.proofs.Trees.{With, bare}
 use Rattle.star_conditions.proofs.VariablesFound.{same_scopes-self, variable-counted, variable-named}
 use Rattle.star_conditions.specs.Counted.{Counted, ClauseTally, Tally, all_counted, arg_in, bound_of, clause_in, clauses_bound, clauses_counted, code_counted, counted_of, each_counted, expr_in, maybe_counted, pair_in, param_tally, plain, same_scopes, target_in}
@@ -18,12 +19,9 @@ use Rattle.star_core.specs.declared.trees.ExprPair.{roll-ExprPair}
 use Rattle.star_core.specs.declared.trees.Target as target_tree
 use Rattle.star_core.specs.declared.trees.UnOp.{UnOp}
 use Rattle.star_core.specs.declared.files.Param.TheVariants as param_tree
-use Rattle.star_grammar.specs.declared.bare_expressions.BareArg.{BareArg, fold-roll-BareArg, map-BareArg, roll-BareArg}
 use Rattle.star_grammar.specs.declared.bare_expressions.BareArg.TheOpen.{BareArg-F, BareClause-F, BareExpr-F, BareParam-F, BarePair-F}
-use Rattle.star_grammar.specs.declared.bare_expressions.BareClause.{BareClause, fold-roll-BareClause, map-BareClause, roll-BareClause}
-use Rattle.star_grammar.specs.declared.bare_expressions.BareExpr.{BareExpr, ind-BareExpr, fold-roll-BareExpr, map-BareExpr, roll-BareExpr}
-use Rattle.star_grammar.specs.declared.bare_expressions.BarePair.{BarePair, fold-roll-BarePair, map-BarePair, roll-BarePair}
-use Rattle.star_grammar.specs.declared.bare_expressions.BareParam.{BareParam, ind-BareParam, fold-roll-BareParam, map-BareParam, roll-BareParam}
+use Rattle.star_grammar.specs.declared.bare_expressions.BareExpr.{BareExpr}
+use Rattle.star_grammar.specs.declared.bare_expressions.BareParam.{BareParam}
 use Rattle.star_names.specs.Variables.{Names}
 use Rattle.star_scopes.specs.ExprMaking.{arg_made, clause_made, expr_made, param_made, target_made, items_made, pairs_made, args_made, params_made, targets_made, maybe_made, list_made, tuple_made, dict_made, more_clauses_made, some_clauses_made, clauses_made, list_comp_made, dict_comp_made, unary_made, binary_made, cond_made, lambda_made, lambda_code, attr_made, index_made, slice_made, call_made, index_target, many_target, named_arg_made, optional_made, pair_made, for_clause_made}
 use Rattle.star_scopes.specs.ExprMeaning.{arg_meaning, arg_step, clause_meaning, clause_step, expr_step, meaning, pair_meaning, pair_step, param_meaning, param_step}
@@ -99,19 +97,19 @@ pub record PairSound (dialect : Dialect) (free : Names) (m : PairMeaning) : Type
   pub pair : (scopes : List Names) → Covered free (m.uses dialect scopes) → Always free (λ whole. PairCounted free scopes whole m) (m.pair free scopes)
 
 module _ (dialect : Dialect) (free : Names) where
-  abbrev pub SoundExpr : Type 0
-  SoundExpr = With (λ tree. ExprSound dialect free (meaning tree))
-
-  abbrev pub SoundArg : Type 0
+  abbrev SoundArg : Type 0
   SoundArg = With (λ tree. ArgSound dialect free (arg_meaning tree))
 
-  abbrev pub SoundClause : Type 0
+  abbrev SoundClause : Type 0
   SoundClause = With (λ tree. ClauseSound dialect free (clause_meaning tree))
 
-  abbrev pub SoundParam : Type 0
+  abbrev SoundExpr : Type 0
+  SoundExpr = With (λ tree. ExprSound dialect free (meaning tree))
+
+  abbrev SoundParam : Type 0
   SoundParam = With (λ tree. ParamSound dialect free (param_meaning tree))
 
-  abbrev pub SoundPair : Type 0
+  abbrev SoundPair : Type 0
   SoundPair = With (λ tree. PairSound dialect free (pair_meaning tree))
 
 -- ---- bindings keep what was bound before
@@ -419,49 +417,44 @@ for_clause-sound dialect free inner scopes to over covered =
     let fit = one whole (back up keeps) in
     clause_fits-by (is.clause_in-For free whole.loads whole.around made other) (record { counted = and_from _ _ fit.counted (two whole keeps).counted; bound = fit.bound }))))
 
--- ---- a layer of sound parts is sound
-
--- a layer of sound trees, as trees, and each as what it means
-module _ {dialect : Dialect} {free : Names} where
-  abbrev bare-arg : BareArg-F (SoundArg dialect free) (SoundClause dialect free) (SoundExpr dialect free) (SoundParam dialect free) (SoundPair dialect free) → BareArg-F BareArg BareClause BareExpr BareParam BarePair
-  bare-arg layer = map-BareArg (SoundArg dialect free) (SoundClause dialect free) (SoundExpr dialect free) (SoundParam dialect free) (SoundPair dialect free) BareArg BareClause BareExpr BareParam BarePair bare bare bare bare bare layer
-
-  abbrev bare-clause : BareClause-F (SoundArg dialect free) (SoundClause dialect free) (SoundExpr dialect free) (SoundParam dialect free) (SoundPair dialect free) → BareClause-F BareArg BareClause BareExpr BareParam BarePair
-  bare-clause layer = map-BareClause (SoundArg dialect free) (SoundClause dialect free) (SoundExpr dialect free) (SoundParam dialect free) (SoundPair dialect free) BareArg BareClause BareExpr BareParam BarePair bare bare bare bare bare layer
-
-  abbrev bare-expr : BareExpr-F (SoundArg dialect free) (SoundClause dialect free) (SoundExpr dialect free) (SoundParam dialect free) (SoundPair dialect free) → BareExpr-F BareArg BareClause BareExpr BareParam BarePair
-  bare-expr layer = map-BareExpr (SoundArg dialect free) (SoundClause dialect free) (SoundExpr dialect free) (SoundParam dialect free) (SoundPair dialect free) BareArg BareClause BareExpr BareParam BarePair bare bare bare bare bare layer
-
-  abbrev bare-param : BareParam-F (SoundArg dialect free) (SoundClause dialect free) (SoundExpr dialect free) (SoundParam dialect free) (SoundPair dialect free) → BareParam-F BareArg BareClause BareExpr BareParam BarePair
-  bare-param layer = map-BareParam (SoundArg dialect free) (SoundClause dialect free) (SoundExpr dialect free) (SoundParam dialect free) (SoundPair dialect free) BareArg BareClause BareExpr BareParam BarePair bare bare bare bare bare layer
-
-  abbrev bare-pair : BarePair-F (SoundArg dialect free) (SoundClause dialect free) (SoundExpr dialect free) (SoundParam dialect free) (SoundPair dialect free) → BarePair-F BareArg BareClause BareExpr BareParam BarePair
-  bare-pair layer = map-BarePair (SoundArg dialect free) (SoundClause dialect free) (SoundExpr dialect free) (SoundParam dialect free) (SoundPair dialect free) BareArg BareClause BareExpr BareParam BarePair bare bare bare bare bare layer
-
-  abbrev meant-arg : BareArg-F (SoundArg dialect free) (SoundClause dialect free) (SoundExpr dialect free) (SoundParam dialect free) (SoundPair dialect free) → BareArg-F ArgMeaning ClauseMeaning ExprMeaning ParamMeaning PairMeaning
-  meant-arg layer = map-BareArg BareArg BareClause BareExpr BareParam BarePair ArgMeaning ClauseMeaning ExprMeaning ParamMeaning PairMeaning arg_meaning clause_meaning meaning param_meaning pair_meaning (bare-arg layer)
-
-  abbrev meant-clause : BareClause-F (SoundArg dialect free) (SoundClause dialect free) (SoundExpr dialect free) (SoundParam dialect free) (SoundPair dialect free) → BareClause-F ArgMeaning ClauseMeaning ExprMeaning ParamMeaning PairMeaning
-  meant-clause layer = map-BareClause BareArg BareClause BareExpr BareParam BarePair ArgMeaning ClauseMeaning ExprMeaning ParamMeaning PairMeaning arg_meaning clause_meaning meaning param_meaning pair_meaning (bare-clause layer)
-
-  abbrev meant-expr : BareExpr-F (SoundArg dialect free) (SoundClause dialect free) (SoundExpr dialect free) (SoundParam dialect free) (SoundPair dialect free) → BareExpr-F ArgMeaning ClauseMeaning ExprMeaning ParamMeaning PairMeaning
-  meant-expr layer = map-BareExpr BareArg BareClause BareExpr BareParam BarePair ArgMeaning ClauseMeaning ExprMeaning ParamMeaning PairMeaning arg_meaning clause_meaning meaning param_meaning pair_meaning (bare-expr layer)
-
-  abbrev meant-param : BareParam-F (SoundArg dialect free) (SoundClause dialect free) (SoundExpr dialect free) (SoundParam dialect free) (SoundPair dialect free) → BareParam-F ArgMeaning ClauseMeaning ExprMeaning ParamMeaning PairMeaning
-  meant-param layer = map-BareParam BareArg BareClause BareExpr BareParam BarePair ArgMeaning ClauseMeaning ExprMeaning ParamMeaning PairMeaning arg_meaning clause_meaning meaning param_meaning pair_meaning (bare-param layer)
+-- ---- a construct of sound parts is sound
 
 module _ (dialect : Dialect) (free : Names) where
-  abbrev ExprLayer : Type 0
-  ExprLayer = BareExpr-F (SoundArg dialect free) (SoundClause dialect free) (SoundExpr dialect free) (SoundParam dialect free) (SoundPair dialect free)
+  abbrev ArgLayer : Type 0
+  ArgLayer = ArgParts (ArgSound dialect free) (ClauseSound dialect free) (ExprSound dialect free) (ParamSound dialect free) (PairSound dialect free)
 
-  target-binds-keep : (layer : ExprLayer) → Keeps (target_binds (meant-expr layer))
+  abbrev ClauseLayer : Type 0
+  ClauseLayer = ClauseParts (ArgSound dialect free) (ClauseSound dialect free) (ExprSound dialect free) (ParamSound dialect free) (PairSound dialect free)
+
+  abbrev ExprLayer : Type 0
+  ExprLayer = ExprParts (ArgSound dialect free) (ClauseSound dialect free) (ExprSound dialect free) (ParamSound dialect free) (PairSound dialect free)
+
+  abbrev ParamLayer : Type 0
+  ParamLayer = ParamParts (ArgSound dialect free) (ClauseSound dialect free) (ExprSound dialect free) (ParamSound dialect free) (PairSound dialect free)
+
+  abbrev PairLayer : Type 0
+  PairLayer = PairParts (ArgSound dialect free) (ClauseSound dialect free) (ExprSound dialect free) (ParamSound dialect free) (PairSound dialect free)
+
+  abbrev arg-of : ArgLayer → BareArg-F ArgMeaning ClauseMeaning ExprMeaning ParamMeaning PairMeaning
+  arg-of = meant-arg (ArgSound dialect free) (ClauseSound dialect free) (ExprSound dialect free) (ParamSound dialect free) (PairSound dialect free)
+
+  abbrev clause-of : ClauseLayer → BareClause-F ArgMeaning ClauseMeaning ExprMeaning ParamMeaning PairMeaning
+  clause-of = meant-clause (ArgSound dialect free) (ClauseSound dialect free) (ExprSound dialect free) (ParamSound dialect free) (PairSound dialect free)
+
+  abbrev expr-of : ExprLayer → BareExpr-F ArgMeaning ClauseMeaning ExprMeaning ParamMeaning PairMeaning
+  expr-of = meant-expr (ArgSound dialect free) (ClauseSound dialect free) (ExprSound dialect free) (ParamSound dialect free) (PairSound dialect free)
+
+  abbrev param-of : ParamLayer → BareParam-F ArgMeaning ClauseMeaning ExprMeaning ParamMeaning PairMeaning
+  param-of = meant-param (ArgSound dialect free) (ClauseSound dialect free) (ExprSound dialect free) (ParamSound dialect free) (PairSound dialect free)
+
+  target-binds-keep : (layer : ExprLayer) → Keeps (target_binds (expr-of layer))
   target-binds-keep (BareExpr-F.Name name) = record { within = λ names. with_binding-within names name.name }
   target-binds-keep (BareExpr-F.Bracketed target) = target.1.keeps
   target-binds-keep (BareExpr-F.Tuple targets) = targets-keep dialect free targets
   target-binds-keep (BareExpr-F.List targets) = targets-keep dialect free targets
   target-binds-keep _ = record { within = within-self }
 
-  expr-uses-grow : (layer : ExprLayer) (scopes : List Names) → Grows (expr_uses (meant-expr layer) dialect scopes)
+  expr-uses-grow : (layer : ExprLayer) (scopes : List Names) → Grows (expr_uses (expr-of layer) dialect scopes)
   expr-uses-grow (BareExpr-F.Name name) scopes = name_uses-grows name dialect scopes
   expr-uses-grow (BareExpr-F.Int value) scopes = no_use-grows
   expr-uses-grow (BareExpr-F.Text text) scopes = no_use-grows
@@ -487,7 +480,7 @@ module _ (dialect : Dialect) (free : Names) where
   expr-uses-grow (BareExpr-F.Slice container (Some begin) (Some end) (Some step)) scopes = slice-grows dialect free scopes container (Some begin) (Some end) (Some step)
   expr-uses-grow (BareExpr-F.Call function args) scopes = call-grows dialect free scopes function args
 
-  expr-layer : (layer : ExprLayer) (scopes : List Names) → Covered free (expr_uses (meant-expr layer) dialect scopes) → Always free (λ whole made. Fits (expr_in free whole.loads whole.around made) scopes (target_binds (meant-expr layer))) (expr_made (meant-expr layer) free scopes)
+  expr-layer : (layer : ExprLayer) (scopes : List Names) → Covered free (expr_uses (expr-of layer) dialect scopes) → Always free (λ whole made. Fits (expr_in free whole.loads whole.around made) scopes (target_binds (expr-of layer))) (expr_made (expr-of layer) free scopes)
   expr-layer (BareExpr-F.Name name) scopes covered = only _ (λ whole. fits-by (is.expr_in-Name free whole.loads whole.around (variable free scopes name.name)) (record { counted = variable-counted free scopes name.name (name-covered free name dialect scopes covered); bound = ap name_binds (variable-named free scopes name.name) }))
   expr-layer (BareExpr-F.Int value) scopes covered = only _ (λ whole. fits-by (is.expr_in-Int free whole.loads whole.around value) (plain-fits refl))
   expr-layer (BareExpr-F.Text text) scopes covered = only _ (λ whole. fits-by (is.expr_in-Text free whole.loads whole.around text) (plain-fits refl))
@@ -516,7 +509,7 @@ module _ (dialect : Dialect) (free : Names) where
   no_target : (scopes : List Names) → Always free (λ whole made. Fits (target_in free whole.loads whole.around made) scopes no_binding) (pure (target_tree.Many []))
   no_target scopes = only _ (λ whole. fits-by (is.target_in-Many free whole.loads whole.around []) (record { counted = refl; bound = refl }))
 
-  target-layer : (layer : ExprLayer) (scopes : List Names) → Covered free (expr_uses (meant-expr layer) dialect scopes) → Always free (λ whole made. Fits (target_in free whole.loads whole.around made) scopes (target_binds (meant-expr layer))) (target_made (meant-expr layer) free scopes)
+  target-layer : (layer : ExprLayer) (scopes : List Names) → Covered free (expr_uses (expr-of layer) dialect scopes) → Always free (λ whole made. Fits (target_in free whole.loads whole.around made) scopes (target_binds (expr-of layer))) (target_made (expr-of layer) free scopes)
   target-layer (BareExpr-F.Name name) scopes covered = only _ (λ whole. fits-by (is.target_in-Name free whole.loads whole.around (variable free scopes name.name)) (record { counted = variable-counted free scopes name.name (name-covered free name dialect scopes covered); bound = ap name_binds (variable-named free scopes name.name) }))
   target-layer (BareExpr-F.Index container at) scopes covered = index_target-sound dialect free scopes container at covered
   target-layer (BareExpr-F.Bracketed target) scopes covered = target.1.target scopes covered
@@ -524,83 +517,57 @@ module _ (dialect : Dialect) (free : Names) where
   target-layer (BareExpr-F.List targets) scopes covered = many_target-sound dialect free scopes targets covered
   target-layer _ scopes covered = no_target scopes
 
-  abbrev ArgLayer : Type 0
-  ArgLayer = BareArg-F (SoundArg dialect free) (SoundClause dialect free) (SoundExpr dialect free) (SoundParam dialect free) (SoundPair dialect free)
-
-  arg-uses-grow : (layer : ArgLayer) (scopes : List Names) → Grows (arg_uses (meant-arg layer) dialect scopes)
+  arg-uses-grow : (layer : ArgLayer) (scopes : List Names) → Grows (arg_uses (arg-of layer) dialect scopes)
   arg-uses-grow (BareArg-F.Positional value) scopes = value.1.grows scopes
   arg-uses-grow (BareArg-F.Named name value) scopes = value.1.grows scopes
   arg-uses-grow (BareArg-F.Star value line) scopes = value.1.grows scopes
   arg-uses-grow (BareArg-F.DoubleStar value line) scopes = value.1.grows scopes
 
-  arg-layer : (layer : ArgLayer) (scopes : List Names) → Covered free (arg_uses (meant-arg layer) dialect scopes) → Always free (λ whole made. arg_in free whole.loads whole.around made scopes ≡ true) (arg_made (meant-arg layer) free scopes)
+  arg-layer : (layer : ArgLayer) (scopes : List Names) → Covered free (arg_uses (arg-of layer) dialect scopes) → Always free (λ whole made. arg_in free whole.loads whole.around made scopes ≡ true) (arg_made (arg-of layer) free scopes)
   arg-layer (BareArg-F.Positional value) scopes covered = first (value.1.expr scopes covered) (λ made known one. done known (arg_tree.Positional made) (λ whole keeps. counted-by scopes (is.arg_in-Positional free whole.loads whole.around made) (one whole keeps).counted))
   arg-layer (BareArg-F.Named name value) scopes covered = named_arg-sound dialect free scopes name value covered
   arg-layer (BareArg-F.Star value line) scopes covered = first (value.1.expr scopes covered) (λ made known one. done known (arg_tree.Star made) (λ whole keeps. counted-by scopes (is.arg_in-Star free whole.loads whole.around made) (one whole keeps).counted))
   arg-layer (BareArg-F.DoubleStar value line) scopes covered = first (value.1.expr scopes covered) (λ made known one. done known (arg_tree.DoubleStar made) (λ whole keeps. counted-by scopes (is.arg_in-DoubleStar free whole.loads whole.around made) (one whole keeps).counted))
 
-  abbrev ParamLayer : Type 0
-  ParamLayer = BareParam-F (SoundArg dialect free) (SoundClause dialect free) (SoundExpr dialect free) (SoundParam dialect free) (SoundPair dialect free)
-
-  param-uses-grow : (layer : ParamLayer) (scopes : List Names) → Grows (param_uses (meant-param layer) dialect scopes)
+  param-uses-grow : (layer : ParamLayer) (scopes : List Names) → Grows (param_uses (param-of layer) dialect scopes)
   param-uses-grow (BareParam-F.Required name) scopes = no_use-grows
   param-uses-grow (BareParam-F.Optional name default) scopes = default.1.grows scopes
   param-uses-grow (BareParam-F.Bare line) scopes = no_use-grows
   param-uses-grow (BareParam-F.Rest name line) scopes = no_use-grows
   param-uses-grow (BareParam-F.Keywords name line) scopes = no_use-grows
 
-  param-layer : (layer : ParamLayer) (scopes : List Names) → Covered free (param_uses (meant-param layer) dialect scopes) → Always free (λ whole made. Fits (param_tally free whole.loads whole.around made) scopes (param_binds (meant-param layer))) (param_made (meant-param layer) free scopes)
+  param-layer : (layer : ParamLayer) (scopes : List Names) → Covered free (param_uses (param-of layer) dialect scopes) → Always free (λ whole made. Fits (param_tally free whole.loads whole.around made) scopes (param_binds (param-of layer))) (param_made (param-of layer) free scopes)
   param-layer (BareParam-F.Required name) scopes covered = only _ (λ whole. record { counted = refl; bound = refl })
   param-layer (BareParam-F.Optional name default) scopes covered = optional-sound dialect free scopes name default covered
   param-layer (BareParam-F.Bare line) scopes covered = only _ (λ whole. record { counted = refl; bound = refl })
   param-layer (BareParam-F.Rest name line) scopes covered = only _ (λ whole. record { counted = refl; bound = refl })
   param-layer (BareParam-F.Keywords name line) scopes covered = only _ (λ whole. record { counted = refl; bound = refl })
 
-  abbrev ClauseLayer : Type 0
-  ClauseLayer = BareClause-F (SoundArg dialect free) (SoundClause dialect free) (SoundExpr dialect free) (SoundParam dialect free) (SoundPair dialect free)
-
-  clause-uses-grow : (layer : ClauseLayer) (inner scopes : List Names) → Grows (clause_uses (meant-clause layer) dialect inner scopes)
+  clause-uses-grow : (layer : ClauseLayer) (inner scopes : List Names) → Grows (clause_uses (clause-of layer) dialect inner scopes)
   clause-uses-grow (BareClause-F.For to over) inner scopes = both-grow (to.1.grows inner) (over.1.grows scopes)
   clause-uses-grow (BareClause-F.If test) inner scopes = test.1.grows inner
 
-  clause-layer : (layer : ClauseLayer) (inner scopes : List Names) → Covered free (clause_uses (meant-clause layer) dialect inner scopes) → Always free (λ whole made. ClauseFits (clause_in free whole.loads whole.around made) inner scopes (clause_binds (meant-clause layer))) (clause_made (meant-clause layer) free inner scopes)
+  clause-layer : (layer : ClauseLayer) (inner scopes : List Names) → Covered free (clause_uses (clause-of layer) dialect inner scopes) → Always free (λ whole made. ClauseFits (clause_in free whole.loads whole.around made) inner scopes (clause_binds (clause-of layer))) (clause_made (clause-of layer) free inner scopes)
   clause-layer (BareClause-F.For to over) inner scopes covered = for_clause-sound dialect free inner scopes to over covered
   clause-layer (BareClause-F.If test) inner scopes covered = first (test.1.expr inner covered) (λ made known one. done known (clause_tree.If made) (λ whole keeps. clause_fits-by (is.clause_in-If free whole.loads whole.around made) (record { counted = (one whole keeps).counted; bound = refl })))
 
-  -- ---- each tree is sound
+  arg-sound : (layer : ArgLayer) → ArgSound dialect free (arg_step (arg-of layer))
+  arg-sound layer = record { grows = arg-uses-grow layer; arg = arg-layer layer }
 
-  arg-rolled : (layer : ArgLayer) → ArgSound dialect free (arg_meaning (roll-BareArg (bare-arg layer)))
-  unfolding meaning arg_meaning clause_meaning param_meaning pair_meaning
-  arg-rolled layer = subst (ArgSound dialect free) (sym (fold-roll-BareArg ArgMeaning ClauseMeaning ExprMeaning ParamMeaning PairMeaning arg_step clause_step expr_step param_step pair_step (bare-arg layer))) (record { grows = arg-uses-grow layer; arg = arg-layer layer })
+  clause-sound : (layer : ClauseLayer) → ClauseSound dialect free (clause_step (clause-of layer))
+  clause-sound layer = record { grows = clause-uses-grow layer; clause = clause-layer layer }
 
-  clause-rolled : (layer : ClauseLayer) → ClauseSound dialect free (clause_meaning (roll-BareClause (bare-clause layer)))
-  unfolding meaning arg_meaning clause_meaning param_meaning pair_meaning
-  clause-rolled layer = subst (ClauseSound dialect free) (sym (fold-roll-BareClause ArgMeaning ClauseMeaning ExprMeaning ParamMeaning PairMeaning arg_step clause_step expr_step param_step pair_step (bare-clause layer))) (record { grows = clause-uses-grow layer; clause = clause-layer layer })
+  layer-sound : (layer : ExprLayer) → ExprSound dialect free (expr_step (expr-of layer))
+  layer-sound layer = record { keeps = target-binds-keep layer; grows = expr-uses-grow layer; expr = expr-layer layer; target = target-layer layer }
 
-  expr-rolled : (layer : ExprLayer) → ExprSound dialect free (meaning (roll-BareExpr (bare-expr layer)))
-  unfolding meaning arg_meaning clause_meaning param_meaning pair_meaning
-  expr-rolled layer = subst (ExprSound dialect free) (sym (fold-roll-BareExpr ArgMeaning ClauseMeaning ExprMeaning ParamMeaning PairMeaning arg_step clause_step expr_step param_step pair_step (bare-expr layer))) (record { keeps = target-binds-keep layer; grows = expr-uses-grow layer; expr = expr-layer layer; target = target-layer layer })
+  one_param-sound : (layer : ParamLayer) → ParamSound dialect free (param_step (param-of layer))
+  one_param-sound layer = record { grows = param-uses-grow layer; param = param-layer layer }
 
-  param-rolled : (layer : ParamLayer) → ParamSound dialect free (param_meaning (roll-BareParam (bare-param layer)))
-  unfolding meaning arg_meaning clause_meaning param_meaning pair_meaning
-  param-rolled layer = subst (ParamSound dialect free) (sym (fold-roll-BareParam ArgMeaning ClauseMeaning ExprMeaning ParamMeaning PairMeaning arg_step clause_step expr_step param_step pair_step (bare-param layer))) (record { grows = param-uses-grow layer; param = param-layer layer })
-
-  pair-rolled : (layer : BarePair-F (SoundArg dialect free) (SoundClause dialect free) (SoundExpr dialect free) (SoundParam dialect free) (SoundPair dialect free)) → PairSound dialect free (pair_meaning (roll-BarePair (bare-pair layer)))
-  unfolding meaning arg_meaning clause_meaning param_meaning pair_meaning
-  pair-rolled layer = subst (PairSound dialect free) (sym (fold-roll-BarePair ArgMeaning ClauseMeaning ExprMeaning ParamMeaning PairMeaning arg_step clause_step expr_step param_step pair_step (bare-pair layer))) (record { grows = λ scopes. two-grow dialect free scopes layer.key layer.value; pair = λ scopes. pair-sound dialect free scopes layer.key layer.value })
+  one_pair-sound : (layer : PairLayer) → PairSound dialect free (pair_step (meant-pair (ArgSound dialect free) (ClauseSound dialect free) (ExprSound dialect free) (ParamSound dialect free) (PairSound dialect free) layer))
+  one_pair-sound layer = record { grows = λ scopes. two-grow dialect free scopes layer.key layer.value; pair = λ scopes. pair-sound dialect free scopes layer.key layer.value }
 
   pub expr-sound : (tree : BareExpr) → ExprSound dialect free (meaning tree)
-  expr-sound = ind-BareExpr (λ tree. ArgSound dialect free (arg_meaning tree)) (λ tree. ClauseSound dialect free (clause_meaning tree)) (λ tree. ExprSound dialect free (meaning tree)) (λ tree. ParamSound dialect free (param_meaning tree)) (λ tree. PairSound dialect free (pair_meaning tree))
-      (λ tree layer is. subst (λ one. ArgSound dialect free (arg_meaning (roll-BareArg one))) is (arg-rolled layer))
-      (λ tree layer is. subst (λ one. ClauseSound dialect free (clause_meaning (roll-BareClause one))) is (clause-rolled layer))
-      (λ tree layer is. subst (λ one. ExprSound dialect free (meaning (roll-BareExpr one))) is (expr-rolled layer))
-      (λ tree layer is. subst (λ one. ParamSound dialect free (param_meaning (roll-BareParam one))) is (param-rolled layer))
-      (λ tree layer is. subst (λ one. PairSound dialect free (pair_meaning (roll-BarePair one))) is (pair-rolled layer))
+  expr-sound = of-expr (ArgSound dialect free) (ClauseSound dialect free) (ExprSound dialect free) (ParamSound dialect free) (PairSound dialect free) arg-sound clause-sound layer-sound one_param-sound one_pair-sound
 
   pub param-sound : (tree : BareParam) → ParamSound dialect free (param_meaning tree)
-  param-sound = ind-BareParam (λ tree. ArgSound dialect free (arg_meaning tree)) (λ tree. ClauseSound dialect free (clause_meaning tree)) (λ tree. ExprSound dialect free (meaning tree)) (λ tree. ParamSound dialect free (param_meaning tree)) (λ tree. PairSound dialect free (pair_meaning tree))
-      (λ tree layer is. subst (λ one. ArgSound dialect free (arg_meaning (roll-BareArg one))) is (arg-rolled layer))
-      (λ tree layer is. subst (λ one. ClauseSound dialect free (clause_meaning (roll-BareClause one))) is (clause-rolled layer))
-      (λ tree layer is. subst (λ one. ExprSound dialect free (meaning (roll-BareExpr one))) is (expr-rolled layer))
-      (λ tree layer is. subst (λ one. ParamSound dialect free (param_meaning (roll-BareParam one))) is (param-rolled layer))
-      (λ tree layer is. subst (λ one. PairSound dialect free (pair_meaning (roll-BarePair one))) is (pair-rolled layer))
+  param-sound = of-param (ArgSound dialect free) (ClauseSound dialect free) (ExprSound dialect free) (ParamSound dialect free) (PairSound dialect free) arg-sound clause-sound layer-sound one_param-sound one_pair-sound

@@ -5,6 +5,7 @@ pub mod ExpressionPlaces
 pub mod Files
 pub mod FreeUses
 pub mod Items
+pub mod MeaningInduction
 pub mod PlaceLayers
 pub mod PlacesMade
 pub mod StatementCounts

@@ -5,6 +5,7 @@ use Rattle.star_conditions.proofs.CountLayers as is
 use Rattle.star_conditions.proofs.CountsMade.{Whole, back, Always, Pairwise, Fits, done, bind-good, then, first, only, each-good, all-fit, all-bound, begin-good, finish-good, load-good}
 use Rattle.star_conditions.proofs.ExpressionCounts.{ParamFits, fits-by, plain-fits, expr-sound, param-sound}
 use Rattle.star_conditions.proofs.FreeUses.{Bounded, Covered, Grows, Keeps, binds-keep, both-grow, both-keep, bound-there, each-apply, each-bounded, each-grows, each-of, each-sure, first-bounded, first-covered, no_use-grows, second-bounded, second-covered, with_binding-within, within-self}
+use Rattle.star_conditions.proofs.MeaningInduction.{KindParts, StmtParts, meant-kind, meant-stmt, of-stmt}
 use Rattle.star_conditions.proofs.Trees.{With, bare}
 use Rattle.star_conditions.proofs.VariablesFound.{same_scopes-self, variable-counted, variable-named}
 use Rattle.star_conditions.specs.Counted as counted
@@ -18,9 +19,8 @@ use Rattle.star_grammar.specs.declared.bare_expressions.BareExpr.{BareExpr}
 use Rattle.star_grammar.specs.declared.bare_expressions.BareName.{BareName}
 use Rattle.star_grammar.specs.declared.bare_expressions.BareParam.{BareParam}
 use Rattle.star_grammar.specs.declared.bare_statements.BareLoadName.{BareLoadName}
-use Rattle.star_grammar.specs.declared.bare_statements.BareStmt.{BareStmt, ind-BareStmt, fold-roll-BareStmt, map-BareStmt, roll-BareStmt}
-use Rattle.star_grammar.specs.declared.bare_statements.BareStmtKind.TheOpen.{BareStmt-F, BareStmtKind-F}
-use Rattle.star_grammar.specs.declared.bare_statements.BareStmtKind.{BareStmtKind, fold-roll-BareStmtKind, map-BareStmtKind, roll-BareStmtKind}
+use Rattle.star_grammar.specs.declared.bare_statements.BareStmt.{BareStmt}
+use Rattle.star_grammar.specs.declared.bare_statements.BareStmtKind.TheOpen.{BareStmtKind-F}
 use Rattle.star_names.specs.Variables.{Names, found}
 use Rattle.star_scopes.specs.Bindings.{Binding, each_binds, loaded_binds, name_binds, no_binding}
 use Rattle.star_scopes.specs.ExprMaking.{params_made}
@@ -219,22 +219,19 @@ def-sound dialect free scopes name params body line bounded covered =
       bound = ap name_binds (variable-named free scopes name.name);
     }))))))
 
--- ---- a layer of sound parts is sound
+-- ---- a construct of sound parts is sound
 
 module _ (dialect : Dialect) (free : Names) where
   abbrev KindLayer : Type 0
-  KindLayer = BareStmtKind-F (SoundKind dialect free) (SoundStmt dialect free)
+  KindLayer = KindParts (KindSound dialect free) (StmtSound dialect free)
 
-  abbrev bare-kind : KindLayer → BareStmtKind-F BareStmtKind BareStmt
-  bare-kind layer = map-BareStmtKind (SoundKind dialect free) (SoundStmt dialect free) BareStmtKind BareStmt bare bare layer
+  abbrev StmtLayer : Type 0
+  StmtLayer = StmtParts (KindSound dialect free) (StmtSound dialect free)
 
-  abbrev bare-stmt : BareStmt-F (SoundKind dialect free) (SoundStmt dialect free) → BareStmt-F BareStmtKind BareStmt
-  bare-stmt layer = map-BareStmt (SoundKind dialect free) (SoundStmt dialect free) BareStmtKind BareStmt bare bare layer
+  abbrev kind-of : KindLayer → BareStmtKind-F KindMeaning StmtMeaning
+  kind-of = meant-kind (KindSound dialect free) (StmtSound dialect free)
 
-  abbrev meant-kind : KindLayer → BareStmtKind-F KindMeaning StmtMeaning
-  meant-kind layer = map-BareStmtKind BareStmtKind BareStmt KindMeaning StmtMeaning kind_meaning stmt_meaning (bare-kind layer)
-
-  kind-binds-keep : (layer : KindLayer) → Keeps (kind_binds (meant-kind layer))
+  kind-binds-keep : (layer : KindLayer) → Keeps (kind_binds (kind-of layer))
   kind-binds-keep (BareStmtKind-F.Def name params body) = name-keeps name.name
   kind-binds-keep (BareStmtKind-F.If test chosen other) = both-keep (body-keeps dialect free chosen) (body-keeps dialect free other)
   kind-binds-keep (BareStmtKind-F.For to over body) = both-keep (expr-sound dialect free to).keeps (body-keeps dialect free body)
@@ -247,7 +244,7 @@ module _ (dialect : Dialect) (free : Names) where
   kind-binds-keep (BareStmtKind-F.Augment place op value) = (expr-sound dialect free place).keeps
   kind-binds-keep (BareStmtKind-F.Value value) = record { within = within-self }
 
-  kind-uses-grow : (layer : KindLayer) (scopes : List Names) → Grows (kind_uses (meant-kind layer) dialect scopes)
+  kind-uses-grow : (layer : KindLayer) (scopes : List Names) → Grows (kind_uses (kind-of layer) dialect scopes)
   kind-uses-grow (BareStmtKind-F.Def name params body) scopes = def-grows dialect free scopes params body
   kind-uses-grow (BareStmtKind-F.If test chosen other) scopes = if-grows dialect free scopes test chosen other
   kind-uses-grow (BareStmtKind-F.For to over body) scopes = for-grows dialect free scopes to over body
@@ -260,7 +257,7 @@ module _ (dialect : Dialect) (free : Names) where
   kind-uses-grow (BareStmtKind-F.Augment place op value) scopes = two-grow dialect free scopes place value
   kind-uses-grow (BareStmtKind-F.Value value) scopes = (expr-sound dialect free value).grows scopes
 
-  kind-layer : (layer : KindLayer) (line : ℕ) (scopes : List Names) → Bounded scopes (kind_binds (meant-kind layer)) → Covered free (kind_uses (meant-kind layer) dialect scopes) → Always free (λ whole made. Fits (kind_in free whole.loads whole.around made) scopes (kind_binds (meant-kind layer))) (kind_made (meant-kind layer) line free scopes)
+  kind-layer : (layer : KindLayer) (line : ℕ) (scopes : List Names) → Bounded scopes (kind_binds (kind-of layer)) → Covered free (kind_uses (kind-of layer) dialect scopes) → Always free (λ whole made. Fits (kind_in free whole.loads whole.around made) scopes (kind_binds (kind-of layer))) (kind_made (kind-of layer) line free scopes)
   kind-layer (BareStmtKind-F.Def name params body) line scopes bounded covered = def-sound dialect free scopes name params body line bounded covered
   kind-layer (BareStmtKind-F.If test chosen other) line scopes bounded covered = if-sound dialect free scopes test chosen other bounded covered
   kind-layer (BareStmtKind-F.For to over body) line scopes bounded covered = for-sound dialect free scopes to over body bounded covered
@@ -277,20 +274,14 @@ module _ (dialect : Dialect) (free : Names) where
   unfolding stmt_made
   stmt-layer kind line scopes bounded covered = first (kind.1.kind line scopes bounded covered) (λ made known one. done known (roll-Stmt (record { line = line; kind = made })) (λ whole keeps. fits-by (is.stmt_in-roll free whole.loads whole.around line made) (one whole keeps)))
 
-  -- ---- each tree is sound
+  kind-sound : (layer : KindLayer) → KindSound dialect free (kind_step (kind-of layer))
+  kind-sound layer = record { keeps = kind-binds-keep layer; grows = kind-uses-grow layer; kind = kind-layer layer }
 
-  kind-rolled : (layer : KindLayer) → KindSound dialect free (kind_meaning (roll-BareStmtKind (bare-kind layer)))
-  unfolding kind_meaning stmt_meaning
-  kind-rolled layer = subst (KindSound dialect free) (sym (fold-roll-BareStmtKind KindMeaning StmtMeaning kind_step stmt_step (bare-kind layer))) (record { keeps = kind-binds-keep layer; grows = kind-uses-grow layer; kind = kind-layer layer })
-
-  stmt-rolled : (layer : BareStmt-F (SoundKind dialect free) (SoundStmt dialect free)) → StmtSound dialect free (stmt_meaning (roll-BareStmt (bare-stmt layer)))
-  unfolding kind_meaning stmt_meaning
-  stmt-rolled layer = subst (StmtSound dialect free) (sym (fold-roll-BareStmt KindMeaning StmtMeaning kind_step stmt_step (bare-stmt layer))) (record { keeps = layer.kind.1.keeps; grows = layer.kind.1.grows; stmt = stmt-layer layer.kind layer.line })
+  layer-sound : (layer : StmtLayer) → StmtSound dialect free (stmt_step (meant-stmt (KindSound dialect free) (StmtSound dialect free) layer))
+  layer-sound layer = record { keeps = layer.kind.1.keeps; grows = layer.kind.1.grows; stmt = stmt-layer layer.kind layer.line }
 
   pub stmt-sound : (tree : BareStmt) → StmtSound dialect free (stmt_meaning tree)
-  stmt-sound = ind-BareStmt (λ tree. KindSound dialect free (kind_meaning tree)) (λ tree. StmtSound dialect free (stmt_meaning tree))
-      (λ tree layer is. subst (λ one. KindSound dialect free (kind_meaning (roll-BareStmtKind one))) is (kind-rolled layer))
-      (λ tree layer is. subst (λ one. StmtSound dialect free (stmt_meaning (roll-BareStmt one))) is (stmt-rolled layer))
+  stmt-sound = of-stmt (KindSound dialect free) (StmtSound dialect free) kind-sound layer-sound
 
   pub all-sound : (scopes : List Names) (body : List BareStmt) → Bounded scopes (body_binds (map stmt_meaning body)) → Covered free (body_uses dialect scopes (map stmt_meaning body))
       → Always free (λ whole. Pairwise (StmtFits free scopes whole) (map stmt_meaning body)) (body_made free scopes (map stmt_meaning body))
