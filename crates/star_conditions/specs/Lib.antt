@@ -1,2 +1,3 @@
-pub mod Places
 pub mod Counted
+pub mod Nesting
+pub mod Places

@@ -1,9 +1,12 @@
 //! What every resolved file meets.
-ghost use Rattle.std.specs.Prelude.{◌≡◌, List, Ok};
+ghost use Rattle.std.specs.Prelude.{◌≡◌, ℕ, List, Ok};
 ghost use Rattle.star_conditions.specs.Counted.{VariablesAreCounted};
+ghost use Rattle.star_conditions.specs.Nesting.{NestedWithin};
 ghost use Rattle.star_conditions.specs.Places.{PlacesAreThere};
 ghost use Rattle.star_core.specs.declared.files.File.{File};
+ghost use Rattle.star_grammar.specs.declared.bare_statements.BareFile.{BareFile};
 ghost use Rattle.star_grammar.specs.declared.bare_statements.BareStmt.{BareStmt};
+ghost use Rattle.star_grammar.specs.Texts.{Spelled};
 ghost use Rattle.star_scopes.specs.declared.dialects.Dialect.{Dialect};
 ghost use Rattle.star_scopes.specs.Files.{resolved};
 
@@ -15,4 +18,9 @@ pub fn places_are_there()
 /// Each variable of a resolved file stands at the scope and the slot that its name has there, counted again from the file's trees.
 pub fn variables_are_counted()
     ensures { (dialect : Dialect) (body : List BareStmt) (file : File) → resolved dialect body ≡ Ok file → VariablesAreCounted file }
+{}
+
+/// No tree of a file that is spelled and resolved, and no function of it, is nested deeper than the grammar allows.
+pub fn trees_are_nested_at_most_128_deep()
+    ensures { (dialect : Dialect) (text : List ℕ) (tree : BareFile) (file : File) → Spelled text tree → resolved dialect tree.body ≡ Ok file → NestedWithin 128 file }
 {}
