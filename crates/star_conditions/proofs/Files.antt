@@ -1,15 +1,22 @@
--- The places and the scopes in resolved files.
-use Rattle.std.proofs.Common.{◌≡◌, List, Result, Ok, Err, arith, le_refl, subst, IfOk}
+-- The places and the variables of resolved files.
+use Rattle.std.proofs.Common.{◌≡◌, true, List, [], ◌∷◌, map, Result, Ok, Err, arith, le_refl, refl, subst, sym, IfOk}
+use Rattle.star_conditions.proofs.CountsMade.{Whole, all-bound, all-fit, known_of, still}
+use Rattle.star_conditions.proofs.FreeUses.{Bounded, Covered, within-self}
+use Rattle.star_conditions.proofs.StatementCounts.{all-sound}
 use Rattle.star_conditions.proofs.StatementPlaces.{all-fine}
-use Rattle.star_conditions.proofs.ScopesMade.{still}
-use Rattle.star_conditions.proofs.StatementScopes.{all-sound}
-use Rattle.star_conditions.specs.ScopesRound.{VariablesAreThere}
+use Rattle.star_conditions.specs.Counted.{VariablesAreCounted, all_counted, stmt_in}
 use Rattle.star_conditions.specs.Places.{PlacesAreThere}
 use Rattle.star_core.specs.declared.files.File.{File}
 use Rattle.star_grammar.specs.declared.bare_statements.BareStmt.{BareStmt}
 use Rattle.star_names.specs.Variables.{Names}
 use Rattle.star_scopes.specs.declared.dialects.Dialect.{Dialect}
 use Rattle.star_scopes.specs.declared.unbound.Unbound.{Unbound}
+use Rattle.star_scopes.specs.Scopes.{variables}
+use Rattle.star_scopes.specs.StatementBinds.{body_binds}
+use Rattle.star_scopes.specs.StatementMaking.{body_made}
+use Rattle.star_scopes.specs.StatementMeaning.{stmt_meaning}
+use Rattle.star_scopes.specs.StatementUses.{body_uses}
+use Rattle.star_scopes.specs.Meanings.{StmtMeaning}
 use Rattle.star_scopes.specs.Files.{file_scopes, file_with, free_names, no_lists, resolved, with_free}
 
 file_with-places : (free : Names) (body : List BareStmt) → PlacesAreThere (file_with free body)
@@ -29,18 +36,26 @@ with_free-places body (Err unbound) file is = subst (λ result. IfOk result Plac
 pub resolved-places : (dialect : Dialect) (body : List BareStmt) (file : File) → resolved dialect body ≡ Ok file → PlacesAreThere file
 resolved-places dialect body file is = with_free-places body (free_names dialect body) file is
 
-file_with-variables : (free : Names) (body : List BareStmt) → VariablesAreThere (file_with free body)
-file_with-variables free body =
-    let sound = all-sound free (file_scopes body) body no_lists (λ place. 0) in
+file_with-variables : (dialect : Dialect) (free : Names) (body : List BareStmt) → free_names dialect body ≡ Ok free → VariablesAreCounted (file_with free body)
+file_with-variables dialect free body gathers =
+    let scopes = file_scopes body in
+    let bounded : Bounded scopes (body_binds (map stmt_meaning body)) = record { before = []; within = within-self _ } in
+    let covered : Covered free (body_uses dialect scopes (map stmt_meaning body)) = record { before = []; after = free; gathers = gathers; within = within-self free } in
+    let sound = all-sound dialect free scopes body bounded covered no_lists (λ place. []) in
+    let made = body_made free scopes (map stmt_meaning body) no_lists in
+    let whole : Whole = record { loads = made.1.loads; around = sound.now } in
+    let keeps = (still (known_of made.1 sound.now)).keeps in
+    let fit = sound.value whole keeps in
+    let tally = stmt_in free made.1.loads sound.now in
     record {
       around = sound.now;
-      body = sound.value sound.now (still _).keeps;
-      functions = sound.codes sound.now (still _).keeps (λ place below. absurd (omega (arith, below)));
+      body = subst (λ bounds. all_counted (map tally made.0) (variables bounds ∷ []) ≡ true) (sym (all-bound tally (λ (m : StmtMeaning). m.bound) scopes _ made.0 fit)) (all-fit tally (λ (m : StmtMeaning). m.bound) scopes _ made.0 fit);
+      functions = sound.codes whole keeps (λ place below. absurd (omega (arith, below)));
     }
 
-with_free-variables : (body : List BareStmt) (free : Result Names Unbound) (file : File) → with_free body free ≡ Ok file → VariablesAreThere file
-with_free-variables body (Ok free) file is = subst (λ result. IfOk result VariablesAreThere) is (file_with-variables free body)
-with_free-variables body (Err unbound) file is = subst (λ result. IfOk result VariablesAreThere) is tt
+with_free-variables : (dialect : Dialect) (body : List BareStmt) (free : Result Names Unbound) (file : File) → free_names dialect body ≡ free → with_free body free ≡ Ok file → VariablesAreCounted file
+with_free-variables dialect body (Ok free) file gathers is = subst (λ result. IfOk result VariablesAreCounted) is (file_with-variables dialect free body gathers)
+with_free-variables dialect body (Err unbound) file gathers is = subst (λ result. IfOk result VariablesAreCounted) is tt
 
-pub resolved-variables : (dialect : Dialect) (body : List BareStmt) (file : File) → resolved dialect body ≡ Ok file → VariablesAreThere file
-resolved-variables dialect body file is = with_free-variables body (free_names dialect body) file is
+pub resolved-variables : (dialect : Dialect) (body : List BareStmt) (file : File) → resolved dialect body ≡ Ok file → VariablesAreCounted file
+resolved-variables dialect body file is = with_free-variables dialect body (free_names dialect body) file refl is

@@ -1,4 +1,5 @@
+pub mod Counted
 pub mod Nesting
 pub mod Orders
 pub mod Places
-pub mod ScopesRound
+pub mod WellFormed

@@ -1,9 +1,10 @@
 //! What every resolved file meets.
 ghost use Rattle.std.specs.Prelude.{◌≡◌, ℕ, List, Ok};
+ghost use Rattle.star_conditions.specs.Counted.{VariablesAreCounted};
 ghost use Rattle.star_conditions.specs.Nesting.{NestedWithin};
 ghost use Rattle.star_conditions.specs.Orders.{HasNoRefusedForm};
-ghost use Rattle.star_conditions.specs.ScopesRound.{VariablesAreThere};
 ghost use Rattle.star_conditions.specs.Places.{PlacesAreThere};
+ghost use Rattle.star_conditions.specs.WellFormed.{WellFormed};
 ghost use Rattle.star_core.specs.declared.files.File.{File};
 ghost use Rattle.star_grammar.specs.declared.bare_statements.BareFile.{BareFile};
 ghost use Rattle.star_grammar.specs.declared.bare_statements.BareStmt.{BareStmt};
@@ -16,9 +17,9 @@ pub fn places_are_there()
     ensures { (dialect : Dialect) (body : List BareStmt) (file : File) → resolved dialect body ≡ Ok file → PlacesAreThere file }
 {}
 
-/// Each variable of a resolved file is one of a scope that stands round it, or a free name.
-pub fn variables_are_there()
-    ensures { (dialect : Dialect) (body : List BareStmt) (file : File) → resolved dialect body ≡ Ok file → VariablesAreThere file }
+/// Each variable of a resolved file stands at the scope and the slot that its name has there, counted again from the file's trees.
+pub fn variables_are_counted()
+    ensures { (dialect : Dialect) (body : List BareStmt) (file : File) → resolved dialect body ≡ Ok file → VariablesAreCounted file }
 {}
 
 /// No tree of a file that is spelled and resolved, and no function of it, is nested deeper than the grammar allows.
@@ -29,4 +30,9 @@ pub fn trees_are_nested_at_most_128_deep()
 /// A file that is spelled and resolved has no form that the grammar refuses: arguments and parameters stand in order, no name of them stands twice, and each statement stands where it may.
 pub fn no_refused_form_is_there()
     ensures { (dialect : Dialect) (text : List ℕ) (tree : BareFile) (file : File) → Spelled text tree → resolved dialect tree.body ≡ Ok file → HasNoRefusedForm file }
+{}
+
+/// The file of a text's tree is well formed.
+pub fn parsed_files_are_well_formed()
+    ensures { (dialect : Dialect) (text : List ℕ) (tree : BareFile) (file : File) → Spelled text tree → resolved dialect tree.body ≡ Ok file → WellFormed file }
 {}

@@ -1,0 +1,205 @@
+-- The variables of a file's trees, counted again from the trees alone: the Starlark specification, "Name binding and variables".
+use Rattle.std.specs.Prelude.{◌≡◌, ℕ, Bool, true, false, ◌&&◌, eqb, bytes_eq, List, [], ◌∷◌, length, get_or, map, Option, Some, None, option_map, EachIndex}
+use Rattle.std.specs.Cmp.Lexicographic.{pointwise}
+use Rattle.star_core.specs.declared.files.File.{File}
+use Rattle.star_core.specs.declared.files.FnBody.{FnBody}
+use Rattle.star_core.specs.declared.files.FnBody.TheVariants as body
+use Rattle.star_core.specs.declared.files.FnCode.{FnCode}
+use Rattle.star_core.specs.declared.files.Param.{Param}
+use Rattle.star_core.specs.declared.files.Param.TheVariants as param
+use Rattle.star_core.specs.declared.loads.Load.{Load}
+use Rattle.star_core.specs.declared.loads.LoadName.{LoadName}
+use Rattle.star_core.specs.declared.trees.Arg.{Arg, fold-Arg}
+use Rattle.star_core.specs.declared.trees.Arg.TheOpen.{Arg-F, Clause-F, Expr-F, ExprPair-F, Target-F}
+use Rattle.star_core.specs.declared.trees.Clause.{Clause, fold-Clause}
+use Rattle.star_core.specs.declared.trees.Expr.{Expr, fold-Expr}
+use Rattle.star_core.specs.declared.trees.ExprPair.{ExprPair, fold-ExprPair}
+use Rattle.star_core.specs.declared.trees.Stmt.{Stmt, fold-Stmt}
+use Rattle.star_core.specs.declared.trees.StmtKind.{StmtKind, fold-StmtKind}
+use Rattle.star_core.specs.declared.trees.StmtKind.TheOpen.{StmtKind-F}
+use Rattle.star_core.specs.declared.trees.Target.{Target, fold-Target}
+use Rattle.star_core.specs.declared.trees.Var.{Var}
+use Rattle.star_names.specs.Variables.{Names, found, place}
+use Rattle.star_scopes.specs.Bindings.{Binding, no_binding, each_binds, name_binds}
+use Rattle.star_scopes.specs.Making.{begun}
+use Rattle.star_scopes.specs.Scopes.{function_variables, variables}
+
+-- whether a tree's variables are counted right where some scopes stand round it, from the innermost on
+abbrev pub Counted : Type 0
+Counted = List Names → Bool
+
+abbrev pub each_counted : List Counted → Counted
+each_counted [] scopes = true
+each_counted (one ∷ more) scopes = one scopes && each_counted more scopes
+
+abbrev pub maybe_counted : Option Counted → Counted
+maybe_counted None scopes = true
+maybe_counted (Some one) scopes = one scopes
+
+-- a tree that may bind: what it binds in the scope in which it stands, beside whether its variables are counted right
+pub record Tally : Type 0 where
+  pub bound : Binding
+  pub counted : Counted
+
+-- a clause by the scopes of what it binds, and then those of the operand of `in`
+pub record ClauseTally : Type 0 where
+  pub bound : Binding
+  pub counted : List Names → Counted
+
+abbrev pub counted_of : Tally → Counted
+counted_of tally = tally.counted
+
+abbrev pub bound_of : Tally → Binding
+bound_of tally = tally.bound
+
+abbrev pub each_bound : List Tally → Binding
+each_bound tallies = each_binds (map bound_of tallies)
+
+abbrev pub all_counted : List Tally → Counted
+all_counted tallies = each_counted (map counted_of tallies)
+
+-- what binds nothing
+abbrev pub plain : Counted → Tally
+plain counted = record { bound = no_binding; counted = counted }
+
+-- the operand of the first `in` stands outside the comprehension
+abbrev pub clauses_counted : List ClauseTally → List Names → Counted
+clauses_counted [] inner scopes = true
+clauses_counted (first ∷ more) inner scopes = first.counted inner scopes && each_counted (map (λ (clause : ClauseTally). clause.counted inner) more) inner
+
+-- the variables that the clauses of a comprehension bind
+abbrev pub clauses_bound : List ClauseTally → Names
+clauses_bound clauses = variables (map (λ (clause : ClauseTally). clause.bound) clauses)
+
+abbrev pub same_scopes : List Names → List Names → Bool
+same_scopes = pointwise (pointwise bytes_eq)
+
+abbrev pub is_place : Option ℕ → ℕ → Bool
+is_place (Some place) slot = eqb slot place
+is_place None slot = false
+
+abbrev pub is_variable : Names → List Names → Var → Option (ℕ × ℕ) → Bool
+is_variable free scopes variable (Some (scope, slot)) = eqb variable.scope scope && eqb variable.slot slot
+is_variable free scopes variable None = eqb variable.scope (length scopes) && is_place (place free variable.name) variable.slot
+
+-- a variable is of the innermost scope that binds its name, at the name's place there; where none binds it, it is a free name at its place, whose scope stands behind those
+unfoldable pub variable_counted : Names → Var → Counted
+variable_counted free variable scopes = is_variable free scopes variable (found scopes variable.name)
+
+abbrev pub loaded_binds : LoadName → Binding
+loaded_binds loaded = name_binds loaded.local
+
+abbrev pub no_load : Load
+no_load = record { file = []; names = []; line = 0 }
+
+-- trees of a file with these free names and loads, where `around` gives the scopes that stand round the `def` or the `lambda` of each function
+module _ (free : Names) (loads : List Load) (around : ℕ → List Names) where
+  abbrev pub arg_counted : Arg-F Counted ClauseTally Tally Tally Counted → Counted
+  arg_counted (Arg-F.Positional value) scopes = value.counted scopes
+  arg_counted (Arg-F.Named name value) scopes = value.counted scopes
+  arg_counted (Arg-F.Star value) scopes = value.counted scopes
+  arg_counted (Arg-F.DoubleStar value) scopes = value.counted scopes
+
+  abbrev pub clause_tally : Clause-F Counted ClauseTally Tally Tally Counted → ClauseTally
+  clause_tally (Clause-F.For to over) = record { bound = to.bound; counted = λ inner scopes. to.counted inner && over.counted scopes }
+  clause_tally (Clause-F.If test) = record { bound = no_binding; counted = λ inner scopes. test.counted inner }
+
+  -- an expression binds where it is the place of an augmented assignment
+  abbrev pub expr_tally : Expr-F Counted ClauseTally Tally Tally Counted → Tally
+  expr_tally (Expr-F.Expr::Name variable) = record { bound = name_binds variable.name; counted = variable_counted free variable }
+  expr_tally (Expr-F.Int value) = plain (λ scopes. true)
+  expr_tally (Expr-F.Text text) = plain (λ scopes. true)
+  expr_tally (Expr-F.List items) = record { bound = each_bound items; counted = all_counted items }
+  expr_tally (Expr-F.Tuple items) = record { bound = each_bound items; counted = all_counted items }
+  expr_tally (Expr-F.Dict pairs) = plain (each_counted pairs)
+  expr_tally (Expr-F.ListComp item clauses) = plain (λ scopes. let inner = clauses_bound clauses ∷ scopes in item.counted inner && clauses_counted clauses inner scopes)
+  expr_tally (Expr-F.DictComp key value clauses) = plain (λ scopes. let inner = clauses_bound clauses ∷ scopes in (key.counted inner && value.counted inner) && clauses_counted clauses inner scopes)
+  expr_tally (Expr-F.Unary op operand) = plain operand.counted
+  expr_tally (Expr-F.Binary op left right) = plain (λ scopes. left.counted scopes && right.counted scopes)
+  expr_tally (Expr-F.Cond test chosen other) = plain (λ scopes. test.counted scopes && (chosen.counted scopes && other.counted scopes))
+  expr_tally (Expr-F.Lambda place) = plain (same_scopes (around place))
+  expr_tally (Expr-F.Attr container name) = plain container.counted
+  expr_tally (Expr-F.Expr::Index container at) = plain (λ scopes. container.counted scopes && at.counted scopes)
+  expr_tally (Expr-F.Slice container begin end step) = plain (λ scopes. container.counted scopes && (maybe_counted (option_map counted_of begin) scopes && (maybe_counted (option_map counted_of end) scopes && maybe_counted (option_map counted_of step) scopes)))
+  expr_tally (Expr-F.Call function args) = plain (λ scopes. function.counted scopes && each_counted args scopes)
+
+  abbrev pub pair_counted : ExprPair-F Counted ClauseTally Tally Tally Counted → Counted
+  pair_counted pair scopes = pair.key.counted scopes && pair.value.counted scopes
+
+  abbrev pub target_tally : Target-F Counted ClauseTally Tally Tally Counted → Tally
+  target_tally (Target-F.Target::Name variable) = record { bound = name_binds variable.name; counted = variable_counted free variable }
+  target_tally (Target-F.Target::Index container at) = plain (λ scopes. container.counted scopes && at.counted scopes)
+  target_tally (Target-F.Many targets) = record { bound = each_bound targets; counted = all_counted targets }
+
+  unfoldable pub arg_in : Arg → Counted
+  arg_in = fold-Arg Counted ClauseTally Tally Tally Counted arg_counted clause_tally expr_tally target_tally pair_counted
+
+  unfoldable pub clause_in : Clause → ClauseTally
+  clause_in = fold-Clause Counted ClauseTally Tally Tally Counted arg_counted clause_tally expr_tally target_tally pair_counted
+
+  unfoldable pub expr_in : Expr → Tally
+  expr_in = fold-Expr Counted ClauseTally Tally Tally Counted arg_counted clause_tally expr_tally target_tally pair_counted
+
+  unfoldable pub pair_in : ExprPair → Counted
+  pair_in = fold-ExprPair Counted ClauseTally Tally Tally Counted arg_counted clause_tally expr_tally target_tally pair_counted
+
+  unfoldable pub target_in : Target → Tally
+  target_in = fold-Target Counted ClauseTally Tally Tally Counted arg_counted clause_tally expr_tally target_tally pair_counted
+
+  abbrev pub if_tally : Tally → List Tally → List Tally → Tally
+  if_tally test chosen other = record { bound = λ names. each_bound other (each_bound chosen names); counted = λ scopes. test.counted scopes && (all_counted chosen scopes && all_counted other scopes) }
+
+  abbrev pub for_tally : Tally → Tally → List Tally → Tally
+  for_tally to over body = record { bound = λ names. each_bound body (to.bound names); counted = λ scopes. to.counted scopes && (over.counted scopes && all_counted body scopes) }
+
+  abbrev pub kind_tally : StmtKind-F Tally Tally → Tally
+  kind_tally (StmtKind-F.Def place to) = record { bound = name_binds to.name; counted = λ scopes. same_scopes (around place) scopes && variable_counted free to scopes }
+  kind_tally (StmtKind-F.If test chosen other) = if_tally (expr_in test) chosen other
+  kind_tally (StmtKind-F.For to over body) = for_tally (target_in to) (expr_in over) body
+  kind_tally (StmtKind-F.Return value) = plain (maybe_counted (option_map counted_of (option_map expr_in value)))
+  kind_tally StmtKind-F.Break = plain (λ scopes. true)
+  kind_tally StmtKind-F.Continue = plain (λ scopes. true)
+  kind_tally StmtKind-F.Pass = plain (λ scopes. true)
+  kind_tally (StmtKind-F.Load place) = record { bound = each_binds (map loaded_binds (get_or loads place no_load).names); counted = λ scopes. true }
+  kind_tally (StmtKind-F.Assign to value) = record { bound = (target_in to).bound; counted = λ scopes. (target_in to).counted scopes && (expr_in value).counted scopes }
+  kind_tally (StmtKind-F.Augment place op value) = record { bound = (expr_in place).bound; counted = λ scopes. (expr_in place).counted scopes && (expr_in value).counted scopes }
+  kind_tally (StmtKind-F.Value value) = plain (expr_in value).counted
+
+  unfoldable pub kind_in : StmtKind → Tally
+  kind_in = fold-StmtKind Tally Tally kind_tally (λ stmt. stmt.kind)
+
+  unfoldable pub stmt_in : Stmt → Tally
+  stmt_in = fold-Stmt Tally Tally kind_tally (λ stmt. stmt.kind)
+
+  abbrev pub param_tally : Param → Tally
+  param_tally (param.Required name) = record { bound = name_binds name; counted = λ scopes. true }
+  param_tally (param.Optional name default) = record { bound = name_binds name; counted = (expr_in default).counted }
+  param_tally param.Bare = plain (λ scopes. true)
+  param_tally (param.Rest name) = record { bound = name_binds name; counted = λ scopes. true }
+  param_tally (param.Keywords name) = record { bound = name_binds name; counted = λ scopes. true }
+
+  abbrev pub body_bound : FnBody → List Binding
+  body_bound (body.Block statements) = map bound_of (map stmt_in statements)
+  body_bound (body.Value value) = []
+
+  abbrev pub body_counted : FnBody → Counted
+  body_counted (body.Block statements) scopes = all_counted (map stmt_in statements) scopes
+  body_counted (body.Value value) scopes = (expr_in value).counted scopes
+
+  -- the variables of a function: its parameters, and what its body binds
+  abbrev pub code_variables : FnCode → Names
+  code_variables code = function_variables (map bound_of (map param_tally code.params)) (body_bound code.body)
+
+  -- the defaults stand outside the function, whose own scope stands round its body
+  abbrev pub code_counted : FnCode → Counted
+  code_counted code scopes = all_counted (map param_tally code.params) scopes && body_counted code.body (code_variables code ∷ scopes)
+
+  -- the variables of a file
+  abbrev pub file_variables : List Stmt → Names
+  file_variables statements = variables (map bound_of (map stmt_in statements))
+
+-- Each variable stands at the scope and the slot that its name has there, where a function's scope has what its parameters and its body bind, a comprehension's what its clauses bind, and the file's what its statements bind.
+pub record VariablesAreCounted (file : File) : Type 0 where
+  pub around : ℕ → List Names
+  pub body : all_counted (map (stmt_in file.free file.loads around) file.body) (file_variables file.free file.loads around file.body ∷ []) ≡ true
+  pub functions : EachIndex file.functions (λ place. code_counted file.free file.loads around (get_or file.functions place begun) (around place) ≡ true)
