@@ -1,6 +1,7 @@
 //! Files of the two dialects: the tree that a text spells, then the forms that its dialect refuses, then its names.
 ghost use Rattle.std.specs.Prelude.{◌≡◌, IfOk};
 ghost use Rattle.bz_base.specs.Answers.{Gives};
+ghost use Rattle.star_conditions.specs.WellFormed.{WellFormed};
 ghost use Rattle.star_grammar.specs.Texts.{Spelled};
 ghost use Rattle.star_parse.specs.Parses.{Parses, first_form, meant, named};
 ghost use Rattle.star_scopes.specs.Files.{resolved};
@@ -23,16 +24,20 @@ pub enum ParseFault {
     Unbound { line: u64, name: Txt },
 }
 
-/// An extension's or a rule's file.
+/// An extension's or a rule's file. It is well formed: an evaluation may rest on its places, variables and depth.
+#[tactic(auto, using(crate::proofs::WellFormed::parses_well_formed))]
 pub fn parse_bzl(alloc: Global, text: &str) -> May<File, ParseFault>
-    ensures { Parses dialect.Extension text.now result }
+    ensures parses { Parses dialect.Extension text.now result }
+    ensures well_formed { IfOk result WellFormed }
 {
     parsed(alloc, Dialect::Extension, text)
 }
 
-/// A module's file.
+/// A module's file. It is well formed: an evaluation may rest on its places, variables and depth.
+#[tactic(auto, using(crate::proofs::WellFormed::parses_well_formed))]
 pub fn parse_module(alloc: Global, text: &str) -> May<File, ParseFault>
-    ensures { Parses dialect.Module text.now result }
+    ensures parses { Parses dialect.Module text.now result }
+    ensures well_formed { IfOk result WellFormed }
 {
     parsed(alloc, Dialect::Module, text)
 }
