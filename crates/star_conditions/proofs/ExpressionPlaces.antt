@@ -1,5 +1,5 @@
 -- The places in what is made of expressions.
-use Rattle.std.proofs.Common.{ℕ, List, [], ◌∷◌, map, Option, Some, None, option_map, arith, subst, sym}
+use Rattle.std.proofs.Common.{ℕ, List, [], ◌∷◌, map, Option, Some, None, option_map, arith}
 use Rattle.star_conditions.proofs.PlacesMade.{Good, bind-good, then, done, each-good, begin-good, finish-good, none}
 use Rattle.star_conditions.proofs.PlaceLayers as is
 use Rattle.star_conditions.proofs.MeaningInduction.{ArgParts, ClauseParts, ExprParts, ParamParts, PairParts, meant-arg, meant-clause, meant-expr, meant-pair, meant-param, of-expr, of-param}
@@ -14,7 +14,7 @@ use Rattle.star_core.specs.declared.trees.ExprPair.{roll-ExprPair}
 use Rattle.star_core.specs.declared.trees.Target as target_tree
 use Rattle.star_core.specs.declared.trees.UnOp.{UnOp}
 use Rattle.star_core.specs.declared.files.Param.TheVariants as param_tree
-use Rattle.star_grammar.specs.declared.bare_expressions.BareArg.TheOpen.{BareArg-F, BareClause-F, BareExpr-F, BareParam-F, BarePair-F}
+use Rattle.star_grammar.specs.declared.bare_expressions.BareArg.TheOpen.{BareArg-F, BareClause-F, BareExpr-F, BareParam-F}
 use Rattle.star_grammar.specs.declared.bare_expressions.BareExpr.{BareExpr}
 use Rattle.star_grammar.specs.declared.bare_expressions.BareParam.{BareParam}
 use Rattle.star_names.specs.Variables.{Names}

@@ -1,5 +1,5 @@
 -- The places in what is made of statements.
-use Rattle.std.proofs.Common.{ℕ, List, ◌∷◌, map, Option, Some, None, arith, subst, sym}
+use Rattle.std.proofs.Common.{ℕ, List, ◌∷◌, map, Option, Some, None, arith}
 use Rattle.star_conditions.proofs.ExpressionPlaces.{of_each, expr-fine, param-fine}
 use Rattle.star_conditions.proofs.MeaningInduction.{KindParts, StmtParts, meant-kind, meant-stmt, of-stmt}
 use Rattle.star_conditions.proofs.Trees.{With, bare}
