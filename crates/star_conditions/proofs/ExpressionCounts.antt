@@ -7,7 +7,7 @@ use Rattle.star_conditions.proofs.FreeUses.{Covered, Grows, Keeps, binds-keep, b
 use Rattle.star_conditions.proofs.MeaningInduction.{ArgParts, ClauseParts, ExprParts, ParamParts, PairParts, meant-arg, meant-clause, meant-expr, meant-param, meant-pair, of-expr, of-param}
 use Rattle.star_conditions.proofs.Trees.{With, bare}
 use Rattle.star_conditions.proofs.VariablesFound.{same_scopes-self, variable-counted, variable-named}
-use Rattle.star_conditions.specs.Counted.{Counted, ClauseTally, Tally, all_counted, arg_in, bound_of, clause_in, clauses_bound, clauses_counted, code_counted, counted_of, each_counted, expr_in, maybe_counted, pair_in, param_tally, plain, same_scopes, target_in}
+use Rattle.star_conditions.specs.Counted.{Counted, ClauseTally, Tally, arg_in, clause_in, clauses_counted, code_counted, counted_of, each_counted, expr_in, maybe_counted, pair_in, param_tally, plain, same_scopes, target_in}
 use Rattle.star_core.specs.declared.trees.Arg.{Arg}
 use Rattle.star_core.specs.declared.trees.Arg as arg_tree
 use Rattle.star_core.specs.declared.trees.BinOp.{BinOp}
@@ -19,7 +19,7 @@ use Rattle.star_core.specs.declared.trees.ExprPair.{roll-ExprPair}
 use Rattle.star_core.specs.declared.trees.Target as target_tree
 use Rattle.star_core.specs.declared.trees.UnOp.{UnOp}
 use Rattle.star_core.specs.declared.files.Param.TheVariants as param_tree
-use Rattle.star_grammar.specs.declared.bare_expressions.BareArg.TheOpen.{BareArg-F, BareClause-F, BareExpr-F, BareParam-F, BarePair-F}
+use Rattle.star_grammar.specs.declared.bare_expressions.BareArg.TheOpen.{BareArg-F, BareClause-F, BareExpr-F, BareParam-F}
 use Rattle.star_grammar.specs.declared.bare_expressions.BareExpr.{BareExpr}
 use Rattle.star_grammar.specs.declared.bare_expressions.BareParam.{BareParam}
 use Rattle.star_names.specs.Variables.{Names}
@@ -33,7 +33,7 @@ use Rattle.star_core.specs.declared.trees.Target.{Target}
 use Rattle.star_core.specs.declared.files.Param.{Param}
 use Rattle.star_scopes.specs.Bindings.{Binding, each_binds, name_binds, no_binding}
 use Rattle.star_scopes.specs.Binds.{clause_binds, param_binds, target_binds}
-use Rattle.star_scopes.specs.ExprUses.{arg_uses, args_use, call_uses, clause_uses, clauses_use, cond_uses, dict_comp_uses, expr_uses, items_use, lambda_uses, list_comp_uses, maybe_uses, pair_uses, pairs_use, param_uses, params_use, slice_uses, two_use}
+use Rattle.star_scopes.specs.ExprUses.{arg_uses, args_use, call_uses, clause_uses, clauses_use, cond_uses, dict_comp_uses, expr_uses, items_use, lambda_uses, list_comp_uses, maybe_uses, pairs_use, param_uses, params_use, slice_uses, two_use}
 use Rattle.star_scopes.specs.Uses.{◌>>◌, each_uses}
 use Rattle.star_scopes.specs.declared.dialects.Dialect.{Dialect}
 
@@ -263,7 +263,7 @@ module _ (dialect : Dialect) (free : Names) (scopes : List Names) where
   unfolding more_clauses_made
   more_clauses-sound inner clauses covered =
       each-good (λ whole (m : ClauseMeaning) one. ClauseFits (clause_in free whole.loads whole.around one) inner inner m.bound) (λ one. one.uses dialect inner inner) (λ one. one.clause free inner inner) _
-          (each-of clause_meaning (λ tree sound. record { grows = sound.grows inner inner; sound = sound.clause inner inner }) clauses) covered
+      (each-of clause_meaning (λ tree sound. record { grows = sound.grows inner inner; sound = sound.clause inner inner }) clauses) covered
 
   some_clauses-sound : (inner : List Names) (one : SoundClause dialect free) (more : List (SoundClause dialect free)) → Covered free (clauses_use dialect scopes inner (clause_meaning one.0 ∷ map clause_meaning (map bare more)))
       → Always free (ClausesFit free inner scopes (clause_meaning one.0 ∷ map clause_meaning (map bare more))) (some_clauses_made free scopes inner (clause_meaning one.0) (map clause_meaning (map bare more)))
@@ -291,7 +291,7 @@ module _ (dialect : Dialect) (free : Names) (scopes : List Names) where
       let fit = all whole keeps in
       fits-by (is.expr_in-ListComp free whole.loads whole.around made others) (plain-fits (
       subst (λ bounds. ((expr_in free whole.loads whole.around made).counted (variables bounds ∷ scopes) && clauses_counted (map (clause_in free whole.loads whole.around) others) (variables bounds ∷ scopes) scopes) ≡ true) (sym fit.1)
-          (and_from _ _ (one whole (back up keeps)).counted fit.0))))))
+      (and_from _ _ (one whole (back up keeps)).counted fit.0))))))
 
   dict_comp-sound : (key value : SoundExpr dialect free) (clauses : List (SoundClause dialect free)) → Covered free (dict_comp_uses dialect scopes (meaning key.0) (meaning value.0) (map clause_meaning (map bare clauses))) → Always free Plain (dict_comp_made free scopes (meaning key.0) (meaning value.0) (map clause_meaning (map bare clauses)))
   unfolding dict_comp_made dict_comp_uses
@@ -308,7 +308,7 @@ module _ (dialect : Dialect) (free : Names) (scopes : List Names) where
       let expr = expr_in free whole.loads whole.around in
       fits-by (is.expr_in-DictComp free whole.loads whole.around made_key made others) (plain-fits (
       subst (λ bounds. (((expr made_key).counted (variables bounds ∷ scopes) && (expr made).counted (variables bounds ∷ scopes)) && clauses_counted (map (clause_in free whole.loads whole.around) others) (variables bounds ∷ scopes) scopes) ≡ true) (sym fit.1)
-          (and_from _ _ (and_from _ _ (one whole (back up before)).counted (two whole before).counted) fit.0)))))))
+      (and_from _ _ (and_from _ _ (one whole (back up before)).counted (two whole before).counted) fit.0)))))))
 
   unary-sound : (op : UnOp) (operand : SoundExpr dialect free) → Covered free ((meaning operand.0).uses dialect scopes) → Always free Plain (unary_made free scopes op (meaning operand.0))
   unfolding unary_made
@@ -345,8 +345,8 @@ module _ (dialect : Dialect) (free : Names) (scopes : List Names) where
       let fit = one whole before in
       let tally = param_tally free whole.loads whole.around in
       subst (λ around. code_counted free whole.loads whole.around code around ≡ true) (sym (at whole (back up before)))
-          (and_from _ _ (all-fit tally (λ m. m.bound) scopes _ made_params fit)
-          (subst (λ bounds. (expr_in free whole.loads whole.around made_body).counted (variables bounds ∷ scopes) ≡ true) (sym (all-bound tally (λ m. m.bound) scopes _ made_params fit)) (two whole keeps).counted)))) (λ _ end more _.
+      (and_from _ _ (all-fit tally (λ m. m.bound) scopes _ made_params fit)
+      (subst (λ bounds. (expr_in free whole.loads whole.around made_body).counted (variables bounds ∷ scopes) ≡ true) (sym (all-bound tally (λ m. m.bound) scopes _ made_params fit)) (two whole keeps).counted)))) (λ _ end more _.
       done end (e.Lambda place) (λ whole keeps. fits-by (is.expr_in-Lambda free whole.loads whole.around place) (plain-fits (
       subst (λ around. same_scopes around scopes ≡ true) (sym (at whole (back up (back further (back more keeps))))) (same_scopes-self scopes))))))))
 

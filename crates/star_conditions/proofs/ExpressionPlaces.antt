@@ -1,7 +1,8 @@
 -- The places in what is made of expressions.
-use Rattle.std.proofs.Common.{ℕ, List, [], ◌∷◌, map, Option, Some, None, option_map, arith, subst, sym}
+use Rattle.std.proofs.Common.{ℕ, List, [], ◌∷◌, map, Option, Some, None, option_map, arith}
 use Rattle.star_conditions.proofs.PlacesMade.{Good, bind-good, then, done, each-good, begin-good, finish-good, none}
 use Rattle.star_conditions.proofs.PlaceLayers as is
+use Rattle.star_conditions.proofs.MeaningInduction.{ArgParts, ClauseParts, ExprParts, ParamParts, PairParts, meant-arg, meant-clause, meant-expr, meant-pair, meant-param, of-expr, of-param}
 use Rattle.star_conditions.proofs.Trees.{With, bare}
 use Rattle.star_conditions.specs.Places.{greatest, number_or_zero, functions_of_arg, functions_of_clause, functions_of_expr, functions_of_pair, functions_of_param, functions_of_target}
 use Rattle.star_core.specs.declared.trees.Arg as arg_tree
@@ -13,12 +14,9 @@ use Rattle.star_core.specs.declared.trees.ExprPair.{roll-ExprPair}
 use Rattle.star_core.specs.declared.trees.Target as target_tree
 use Rattle.star_core.specs.declared.trees.UnOp.{UnOp}
 use Rattle.star_core.specs.declared.files.Param.TheVariants as param_tree
-use Rattle.star_grammar.specs.declared.bare_expressions.BareArg.{BareArg, fold-roll-BareArg, map-BareArg, roll-BareArg}
-use Rattle.star_grammar.specs.declared.bare_expressions.BareArg.TheOpen.{BareArg-F, BareClause-F, BareExpr-F, BareParam-F, BarePair-F}
-use Rattle.star_grammar.specs.declared.bare_expressions.BareClause.{BareClause, fold-roll-BareClause, map-BareClause, roll-BareClause}
-use Rattle.star_grammar.specs.declared.bare_expressions.BareExpr.{BareExpr, ind-BareExpr, fold-roll-BareExpr, map-BareExpr, roll-BareExpr}
-use Rattle.star_grammar.specs.declared.bare_expressions.BarePair.{BarePair, fold-roll-BarePair, map-BarePair, roll-BarePair}
-use Rattle.star_grammar.specs.declared.bare_expressions.BareParam.{BareParam, ind-BareParam, fold-roll-BareParam, map-BareParam, roll-BareParam}
+use Rattle.star_grammar.specs.declared.bare_expressions.BareArg.TheOpen.{BareArg-F, BareClause-F, BareExpr-F, BareParam-F}
+use Rattle.star_grammar.specs.declared.bare_expressions.BareExpr.{BareExpr}
+use Rattle.star_grammar.specs.declared.bare_expressions.BareParam.{BareParam}
 use Rattle.star_names.specs.Variables.{Names}
 use Rattle.star_scopes.specs.ExprMaking.{arg_made, clause_made, expr_made, param_made, target_made, items_made, pairs_made, args_made, params_made, targets_made, maybe_made, list_made, tuple_made, dict_made, more_clauses_made, some_clauses_made, clauses_made, list_comp_made, dict_comp_made, unary_made, binary_made, cond_made, lambda_made, lambda_code, attr_made, index_made, slice_made, call_made, index_target, many_target, named_arg_made, optional_made, pair_made, for_clause_made}
 use Rattle.star_scopes.specs.ExprMeaning.{arg_meaning, arg_step, clause_meaning, clause_step, expr_step, meaning, pair_meaning, pair_step, param_meaning, param_step}
@@ -223,40 +221,9 @@ for_clause-fine free inner around to over =
     then (over.1.expr free around) (λ made k l up _ also _.
     done k l (clause_tree.For made_to made) (omega (arith, is.functions_of_clause-For made_to made))))
 
--- ---- a layer of fine parts is fine
+-- ---- a construct of fine parts is fine
 
--- a layer of fine trees, as trees, and each as what it means
-abbrev bare-arg : BareArg-F FineArg FineClause FineExpr FineParam FinePair → BareArg-F BareArg BareClause BareExpr BareParam BarePair
-bare-arg layer = map-BareArg FineArg FineClause FineExpr FineParam FinePair BareArg BareClause BareExpr BareParam BarePair bare bare bare bare bare layer
-
-abbrev bare-clause : BareClause-F FineArg FineClause FineExpr FineParam FinePair → BareClause-F BareArg BareClause BareExpr BareParam BarePair
-bare-clause layer = map-BareClause FineArg FineClause FineExpr FineParam FinePair BareArg BareClause BareExpr BareParam BarePair bare bare bare bare bare layer
-
-abbrev bare-expr : BareExpr-F FineArg FineClause FineExpr FineParam FinePair → BareExpr-F BareArg BareClause BareExpr BareParam BarePair
-bare-expr layer = map-BareExpr FineArg FineClause FineExpr FineParam FinePair BareArg BareClause BareExpr BareParam BarePair bare bare bare bare bare layer
-
-abbrev bare-param : BareParam-F FineArg FineClause FineExpr FineParam FinePair → BareParam-F BareArg BareClause BareExpr BareParam BarePair
-bare-param layer = map-BareParam FineArg FineClause FineExpr FineParam FinePair BareArg BareClause BareExpr BareParam BarePair bare bare bare bare bare layer
-
-abbrev bare-pair : BarePair-F FineArg FineClause FineExpr FineParam FinePair → BarePair-F BareArg BareClause BareExpr BareParam BarePair
-bare-pair layer = map-BarePair FineArg FineClause FineExpr FineParam FinePair BareArg BareClause BareExpr BareParam BarePair bare bare bare bare bare layer
-
-abbrev meant-arg : BareArg-F FineArg FineClause FineExpr FineParam FinePair → BareArg-F ArgMeaning ClauseMeaning ExprMeaning ParamMeaning PairMeaning
-meant-arg layer = map-BareArg BareArg BareClause BareExpr BareParam BarePair ArgMeaning ClauseMeaning ExprMeaning ParamMeaning PairMeaning arg_meaning clause_meaning meaning param_meaning pair_meaning (bare-arg layer)
-
-abbrev meant-clause : BareClause-F FineArg FineClause FineExpr FineParam FinePair → BareClause-F ArgMeaning ClauseMeaning ExprMeaning ParamMeaning PairMeaning
-meant-clause layer = map-BareClause BareArg BareClause BareExpr BareParam BarePair ArgMeaning ClauseMeaning ExprMeaning ParamMeaning PairMeaning arg_meaning clause_meaning meaning param_meaning pair_meaning (bare-clause layer)
-
-abbrev meant-expr : BareExpr-F FineArg FineClause FineExpr FineParam FinePair → BareExpr-F ArgMeaning ClauseMeaning ExprMeaning ParamMeaning PairMeaning
-meant-expr layer = map-BareExpr BareArg BareClause BareExpr BareParam BarePair ArgMeaning ClauseMeaning ExprMeaning ParamMeaning PairMeaning arg_meaning clause_meaning meaning param_meaning pair_meaning (bare-expr layer)
-
-abbrev meant-param : BareParam-F FineArg FineClause FineExpr FineParam FinePair → BareParam-F ArgMeaning ClauseMeaning ExprMeaning ParamMeaning PairMeaning
-meant-param layer = map-BareParam BareArg BareClause BareExpr BareParam BarePair ArgMeaning ClauseMeaning ExprMeaning ParamMeaning PairMeaning arg_meaning clause_meaning meaning param_meaning pair_meaning (bare-param layer)
-
-abbrev meant-pair : BarePair-F FineArg FineClause FineExpr FineParam FinePair → BarePair-F ArgMeaning ClauseMeaning ExprMeaning ParamMeaning PairMeaning
-meant-pair layer = map-BarePair BareArg BareClause BareExpr BareParam BarePair ArgMeaning ClauseMeaning ExprMeaning ParamMeaning PairMeaning arg_meaning clause_meaning meaning param_meaning pair_meaning (bare-pair layer)
-
-pub expr-layer : (layer : BareExpr-F FineArg FineClause FineExpr FineParam FinePair) (free : Names) (scopes : List Names) → Good 0 0 functions_of_expr none (expr_made (meant-expr layer) free scopes)
+expr-layer : (layer : ExprParts ArgFine ClauseFine ExprFine ParamFine PairFine) (free : Names) (scopes : List Names) → Good 0 0 functions_of_expr none (expr_made (meant-expr ArgFine ClauseFine ExprFine ParamFine PairFine layer) free scopes)
 expr-layer (BareExpr-F.Name name) free scopes = done 0 0 _ (omega (arith, is.functions_of_expr-Name (variable free scopes name.name)))
 expr-layer (BareExpr-F.Int value) free scopes = done 0 0 _ (omega (arith, is.functions_of_expr-Int value))
 expr-layer (BareExpr-F.Text text) free scopes = done 0 0 _ (omega (arith, is.functions_of_expr-Text text))
@@ -285,7 +252,7 @@ expr-layer (BareExpr-F.Call function args) free scopes = call-fine free scopes f
 no_target : Good 0 0 functions_of_target none (pure (target_tree.Many []))
 no_target = done 0 0 _ (omega (arith, is.functions_of_target-Many []))
 
-pub target-layer : (layer : BareExpr-F FineArg FineClause FineExpr FineParam FinePair) (free : Names) (scopes : List Names) → Good 0 0 functions_of_target none (target_made (meant-expr layer) free scopes)
+target-layer : (layer : ExprParts ArgFine ClauseFine ExprFine ParamFine PairFine) (free : Names) (scopes : List Names) → Good 0 0 functions_of_target none (target_made (meant-expr ArgFine ClauseFine ExprFine ParamFine PairFine layer) free scopes)
 target-layer (BareExpr-F.Name name) free scopes = done 0 0 _ (omega (arith, is.functions_of_target-Name (variable free scopes name.name)))
 target-layer (BareExpr-F.Index container at) free scopes = index_target-fine free scopes container at
 target-layer (BareExpr-F.Bracketed target) free scopes = target.1.target free scopes
@@ -293,57 +260,42 @@ target-layer (BareExpr-F.Tuple targets) free scopes = many_target-fine free scop
 target-layer (BareExpr-F.List targets) free scopes = many_target-fine free scopes targets
 target-layer _ free scopes = no_target
 
-pub arg-layer : (layer : BareArg-F FineArg FineClause FineExpr FineParam FinePair) (free : Names) (scopes : List Names) → Good 0 0 functions_of_arg none (arg_made (meant-arg layer) free scopes)
+arg-layer : (layer : ArgParts ArgFine ClauseFine ExprFine ParamFine PairFine) (free : Names) (scopes : List Names) → Good 0 0 functions_of_arg none (arg_made (meant-arg ArgFine ClauseFine ExprFine ParamFine PairFine layer) free scopes)
 arg-layer (BareArg-F.Positional value) free scopes = then (value.1.expr free scopes) (λ made i j _ _ within _. done i j (arg_tree.Positional made) (omega (arith, is.functions_of_arg-Positional made)))
 arg-layer (BareArg-F.Named name value) free scopes = named_arg-fine free scopes name value
 arg-layer (BareArg-F.Star value line) free scopes = then (value.1.expr free scopes) (λ made i j _ _ within _. done i j (arg_tree.Star made) (omega (arith, is.functions_of_arg-Star made)))
 arg-layer (BareArg-F.DoubleStar value line) free scopes = then (value.1.expr free scopes) (λ made i j _ _ within _. done i j (arg_tree.DoubleStar made) (omega (arith, is.functions_of_arg-DoubleStar made)))
 
-pub param-layer : (layer : BareParam-F FineArg FineClause FineExpr FineParam FinePair) (free : Names) (scopes : List Names) → Good 0 0 functions_of_param none (param_made (meant-param layer) free scopes)
+param-layer : (layer : ParamParts ArgFine ClauseFine ExprFine ParamFine PairFine) (free : Names) (scopes : List Names) → Good 0 0 functions_of_param none (param_made (meant-param ArgFine ClauseFine ExprFine ParamFine PairFine layer) free scopes)
 param-layer (BareParam-F.Required name) free scopes = done 0 0 _ (omega arith)
 param-layer (BareParam-F.Optional name default) free scopes = optional-fine free scopes name default
 param-layer (BareParam-F.Bare line) free scopes = done 0 0 _ (omega arith)
 param-layer (BareParam-F.Rest name line) free scopes = done 0 0 _ (omega arith)
 param-layer (BareParam-F.Keywords name line) free scopes = done 0 0 _ (omega arith)
 
-pub clause-layer : (layer : BareClause-F FineArg FineClause FineExpr FineParam FinePair) (free : Names) (inner around : List Names) → Good 0 0 functions_of_clause none (clause_made (meant-clause layer) free inner around)
+clause-layer : (layer : ClauseParts ArgFine ClauseFine ExprFine ParamFine PairFine) (free : Names) (inner around : List Names) → Good 0 0 functions_of_clause none (clause_made (meant-clause ArgFine ClauseFine ExprFine ParamFine PairFine layer) free inner around)
 clause-layer (BareClause-F.For to over) free inner around = for_clause-fine free inner around to over
 clause-layer (BareClause-F.If test) free inner around = then (test.1.expr free inner) (λ made i j _ _ within _. done i j (clause_tree.If made) (omega (arith, is.functions_of_clause-If made)))
 
 -- ---- each tree is fine
 
-arg-rolled : (layer : BareArg-F FineArg FineClause FineExpr FineParam FinePair) → ArgFine (arg_meaning (roll-BareArg (bare-arg layer)))
-unfolding meaning arg_meaning clause_meaning param_meaning pair_meaning
-arg-rolled layer = subst ArgFine (sym (fold-roll-BareArg ArgMeaning ClauseMeaning ExprMeaning ParamMeaning PairMeaning arg_step clause_step expr_step param_step pair_step (bare-arg layer))) (record { arg = arg-layer layer })
+arg-fine : (layer : ArgParts ArgFine ClauseFine ExprFine ParamFine PairFine) → ArgFine (arg_step (meant-arg ArgFine ClauseFine ExprFine ParamFine PairFine layer))
+arg-fine layer = record { arg = arg-layer layer }
 
-clause-rolled : (layer : BareClause-F FineArg FineClause FineExpr FineParam FinePair) → ClauseFine (clause_meaning (roll-BareClause (bare-clause layer)))
-unfolding meaning arg_meaning clause_meaning param_meaning pair_meaning
-clause-rolled layer = subst ClauseFine (sym (fold-roll-BareClause ArgMeaning ClauseMeaning ExprMeaning ParamMeaning PairMeaning arg_step clause_step expr_step param_step pair_step (bare-clause layer))) (record { clause = clause-layer layer })
+clause-fine : (layer : ClauseParts ArgFine ClauseFine ExprFine ParamFine PairFine) → ClauseFine (clause_step (meant-clause ArgFine ClauseFine ExprFine ParamFine PairFine layer))
+clause-fine layer = record { clause = clause-layer layer }
 
-expr-rolled : (layer : BareExpr-F FineArg FineClause FineExpr FineParam FinePair) → ExprFine (meaning (roll-BareExpr (bare-expr layer)))
-unfolding meaning arg_meaning clause_meaning param_meaning pair_meaning
-expr-rolled layer = subst ExprFine (sym (fold-roll-BareExpr ArgMeaning ClauseMeaning ExprMeaning ParamMeaning PairMeaning arg_step clause_step expr_step param_step pair_step (bare-expr layer))) (record { expr = expr-layer layer; target = target-layer layer })
+layer-fine : (layer : ExprParts ArgFine ClauseFine ExprFine ParamFine PairFine) → ExprFine (expr_step (meant-expr ArgFine ClauseFine ExprFine ParamFine PairFine layer))
+layer-fine layer = record { expr = expr-layer layer; target = target-layer layer }
 
-param-rolled : (layer : BareParam-F FineArg FineClause FineExpr FineParam FinePair) → ParamFine (param_meaning (roll-BareParam (bare-param layer)))
-unfolding meaning arg_meaning clause_meaning param_meaning pair_meaning
-param-rolled layer = subst ParamFine (sym (fold-roll-BareParam ArgMeaning ClauseMeaning ExprMeaning ParamMeaning PairMeaning arg_step clause_step expr_step param_step pair_step (bare-param layer))) (record { param = param-layer layer })
+one_param-fine : (layer : ParamParts ArgFine ClauseFine ExprFine ParamFine PairFine) → ParamFine (param_step (meant-param ArgFine ClauseFine ExprFine ParamFine PairFine layer))
+one_param-fine layer = record { param = param-layer layer }
 
-pair-rolled : (layer : BarePair-F FineArg FineClause FineExpr FineParam FinePair) → PairFine (pair_meaning (roll-BarePair (bare-pair layer)))
-unfolding meaning arg_meaning clause_meaning param_meaning pair_meaning
-pair-rolled layer = subst PairFine (sym (fold-roll-BarePair ArgMeaning ClauseMeaning ExprMeaning ParamMeaning PairMeaning arg_step clause_step expr_step param_step pair_step (bare-pair layer))) (record { pair = λ free scopes. pair-fine free scopes layer.key layer.value })
+one_pair-fine : (layer : PairParts ArgFine ClauseFine ExprFine ParamFine PairFine) → PairFine (pair_step (meant-pair ArgFine ClauseFine ExprFine ParamFine PairFine layer))
+one_pair-fine layer = record { pair = λ free scopes. pair-fine free scopes layer.key layer.value }
 
 pub expr-fine : (tree : BareExpr) → ExprFine (meaning tree)
-expr-fine = ind-BareExpr (λ tree. ArgFine (arg_meaning tree)) (λ tree. ClauseFine (clause_meaning tree)) (λ tree. ExprFine (meaning tree)) (λ tree. ParamFine (param_meaning tree)) (λ tree. PairFine (pair_meaning tree))
-    (λ tree layer is. subst (λ one. ArgFine (arg_meaning (roll-BareArg one))) is (arg-rolled layer))
-    (λ tree layer is. subst (λ one. ClauseFine (clause_meaning (roll-BareClause one))) is (clause-rolled layer))
-    (λ tree layer is. subst (λ one. ExprFine (meaning (roll-BareExpr one))) is (expr-rolled layer))
-    (λ tree layer is. subst (λ one. ParamFine (param_meaning (roll-BareParam one))) is (param-rolled layer))
-    (λ tree layer is. subst (λ one. PairFine (pair_meaning (roll-BarePair one))) is (pair-rolled layer))
+expr-fine = of-expr ArgFine ClauseFine ExprFine ParamFine PairFine arg-fine clause-fine layer-fine one_param-fine one_pair-fine
 
 pub param-fine : (tree : BareParam) → ParamFine (param_meaning tree)
-param-fine = ind-BareParam (λ tree. ArgFine (arg_meaning tree)) (λ tree. ClauseFine (clause_meaning tree)) (λ tree. ExprFine (meaning tree)) (λ tree. ParamFine (param_meaning tree)) (λ tree. PairFine (pair_meaning tree))
-    (λ tree layer is. subst (λ one. ArgFine (arg_meaning (roll-BareArg one))) is (arg-rolled layer))
-    (λ tree layer is. subst (λ one. ClauseFine (clause_meaning (roll-BareClause one))) is (clause-rolled layer))
-    (λ tree layer is. subst (λ one. ExprFine (meaning (roll-BareExpr one))) is (expr-rolled layer))
-    (λ tree layer is. subst (λ one. ParamFine (param_meaning (roll-BareParam one))) is (param-rolled layer))
-    (λ tree layer is. subst (λ one. PairFine (pair_meaning (roll-BarePair one))) is (pair-rolled layer))
+param-fine = of-param ArgFine ClauseFine ExprFine ParamFine PairFine arg-fine clause-fine layer-fine one_param-fine one_pair-fine

@@ -1,5 +1,5 @@
 -- The free names that some uses gather: none is lost, and each that is used is among them.
-use Rattle.std.proofs.Common.{◌≡◌, ℕ, suc, ◌+◌, ◌<◌, Bool, true, false, not, cond, true≢false, List, [], ◌∷◌, ◌++◌, length, map, position, Option, Some, None, Result, Ok, Err, IfOk, IfSome, if◌then◌else◌, ◌||◌, refl, ap, subst, sym, ◌∙◌, arith}
+use Rattle.std.proofs.Common.{◌≡◌, ℕ, suc, ◌+◌, ◌<◌, Bool, true, false, not, cond, true≢false, List, [], ◌∷◌, ◌++◌, length, map, Option, Some, None, Result, Ok, Err, IfOk, IfSome, if◌then◌else◌, ◌||◌, refl, ap, subst, sym, ◌∙◌, arith}
 use Rattle.std.proofs.lemmas.Bool.{lt-ltb, or_left, or_right}
 use Rattle.std.proofs.lemmas.List.Folds.{list_any-append}
 use Rattle.std.proofs.lemmas.Slice.Eq.{bytes_eq-Decides}
@@ -76,9 +76,11 @@ halfway (Ok names) second after is = record { names = names; gathers = refl; goe
 halfway (Err unbound) second after is = absurd (subst (λ (result : Result Names Unbound). IfOk result (λ _. ⊥)) is tt)
 
 pub both-grow : {first second : Uses} → Grows first → Grows second → Grows (first >> second)
-both-grow {first} {second} one two = record { within = λ before after is.
-    let middle = halfway (first before) second after is in
-    within-both (one.within before middle.names middle.gathers) (two.within middle.names after middle.goes) }
+both-grow {first} {second} one two = record {
+  within = λ before after is.
+      let middle = halfway (first before) second after is in
+      within-both (one.within before middle.names middle.gathers) (two.within middle.names after middle.goes);
+}
 
 pub first-covered : {free : Names} {first second : Uses} → Grows second → Covered free (first >> second) → Covered free first
 first-covered {free} {first} {second} grows covered =

@@ -1,5 +1,5 @@
 -- What is made of statements binds what they do, and its variables are counted right.
-use Rattle.std.proofs.Common.{◌≡◌, ℕ, true, List, [], ◌∷◌, map, get_or, Option, Some, None, refl, ap, subst, sym, ◌∙◌, ◌&&◌}
+use Rattle.std.proofs.Common.{◌≡◌, ℕ, true, List, [], ◌∷◌, map, Option, Some, None, refl, ap, subst, sym, ◌∙◌}
 use Rattle.std.proofs.lemmas.Bool.{and_from}
 use Rattle.star_conditions.proofs.CountLayers as is
 use Rattle.star_conditions.proofs.CountsMade.{Whole, back, Always, Pairwise, Fits, done, bind-good, then, first, only, each-good, all-fit, all-bound, begin-good, finish-good, load-good}
@@ -21,8 +21,8 @@ use Rattle.star_grammar.specs.declared.bare_expressions.BareParam.{BareParam}
 use Rattle.star_grammar.specs.declared.bare_statements.BareLoadName.{BareLoadName}
 use Rattle.star_grammar.specs.declared.bare_statements.BareStmt.{BareStmt}
 use Rattle.star_grammar.specs.declared.bare_statements.BareStmtKind.TheOpen.{BareStmtKind-F}
-use Rattle.star_names.specs.Variables.{Names, found}
-use Rattle.star_scopes.specs.Bindings.{Binding, each_binds, loaded_binds, name_binds, no_binding}
+use Rattle.star_names.specs.Variables.{Names}
+use Rattle.star_scopes.specs.Bindings.{each_binds, loaded_binds, name_binds, no_binding}
 use Rattle.star_scopes.specs.ExprMaking.{params_made}
 use Rattle.star_scopes.specs.ExprMeaning.{meaning, param_meaning}
 use Rattle.star_scopes.specs.ExprUses.{params_use, two_use}
@@ -123,7 +123,7 @@ module _ (dialect : Dialect) (free : Names) (scopes : List Names) where
   unfolding body_made body_uses
   body-sound body bounded covered = each-good (StmtFits free scopes) (λ one. one.uses dialect scopes) (λ one. one.stmt free scopes) _
       (each-apply _ (each-of stmt_meaning (λ tree sound bounded. record { grows = sound.grows scopes; sound = sound.stmt scopes bounded }) body)
-          (each-bounded scopes (λ (m : StmtMeaning). m.bound) _ (each-of stmt_meaning (λ tree sound. sound.keeps) body) bounded)) covered
+      (each-bounded scopes (λ (m : StmtMeaning). m.bound) _ (each-of stmt_meaning (λ tree sound. sound.keeps) body) bounded)) covered
 
   -- a statement that binds nothing
   abbrev Plain : Whole → StmtKind → Type 0
@@ -212,8 +212,8 @@ def-sound dialect free scopes name params body line bounded covered =
     let stmt_tally = stmt_in free whole.loads whole.around in
     let same_variables : function_variables (map bound_of (map tally made_params)) (map bound_of (map stmt_tally made)) ≡ function_variables bounds body_bounds = λ i. function_variables (all-bound tally (λ m. m.bound) scopes _ made_params params_fit i) (all-bound stmt_tally (λ m. m.bound) inner _ made body_fit i) in
     subst (λ around. code_counted free whole.loads whole.around code around ≡ true) (sym (at whole (back up before)))
-        (and_from _ _ (all-fit tally (λ m. m.bound) scopes _ made_params params_fit)
-        (subst (λ variables. all_counted (map stmt_tally made) (variables ∷ scopes) ≡ true) (sym same_variables) (all-fit stmt_tally (λ m. m.bound) inner _ made body_fit))))) (λ _ end more _.
+    (and_from _ _ (all-fit tally (λ m. m.bound) scopes _ made_params params_fit)
+    (subst (λ variables. all_counted (map stmt_tally made) (variables ∷ scopes) ≡ true) (sym same_variables) (all-fit stmt_tally (λ m. m.bound) inner _ made body_fit))))) (λ _ end more _.
     done end (st.Def place to) (λ whole keeps. fits-by (is.kind_in-Def free whole.loads whole.around place to) (record {
       counted = and_from _ _ (subst (λ around. same_scopes around scopes ≡ true) (sym (at whole (back up (back further (back more keeps))))) (same_scopes-self scopes)) (variable-counted free scopes name.name (bound-there free scopes name.name bounded));
       bound = ap name_binds (variable-named free scopes name.name);
@@ -288,4 +288,4 @@ module _ (dialect : Dialect) (free : Names) where
   unfolding body_made body_uses
   all-sound scopes body bounded covered = each-good (StmtFits free scopes) (λ one. one.uses dialect scopes) (λ one. one.stmt free scopes) _
       (each-apply _ (each-sure stmt_meaning (λ tree bounded. let sound = stmt-sound tree in record { grows = sound.grows scopes; sound = sound.stmt scopes bounded }) body)
-          (each-bounded scopes (λ (m : StmtMeaning). m.bound) _ (each-sure stmt_meaning (λ tree. (stmt-sound tree).keeps) body) bounded)) covered
+      (each-bounded scopes (λ (m : StmtMeaning). m.bound) _ (each-sure stmt_meaning (λ tree. (stmt-sound tree).keeps) body) bounded)) covered

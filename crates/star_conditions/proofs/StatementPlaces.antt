@@ -1,6 +1,7 @@
 -- The places in what is made of statements.
-use Rattle.std.proofs.Common.{ℕ, List, ◌∷◌, map, Option, Some, None, arith, subst, sym}
+use Rattle.std.proofs.Common.{ℕ, List, ◌∷◌, map, Option, Some, None, arith}
 use Rattle.star_conditions.proofs.ExpressionPlaces.{of_each, expr-fine, param-fine}
+use Rattle.star_conditions.proofs.MeaningInduction.{KindParts, StmtParts, meant-kind, meant-stmt, of-stmt}
 use Rattle.star_conditions.proofs.Trees.{With, bare}
 use Rattle.star_conditions.proofs.PlacesMade.{Good, pure-good, bind-good, then, each-good, each-sure, begin-good, finish-good, load-good, none}
 use Rattle.star_conditions.proofs.PlaceLayers as is
@@ -13,9 +14,8 @@ use Rattle.star_grammar.specs.declared.bare_expressions.BareExpr.{BareExpr}
 use Rattle.star_grammar.specs.declared.bare_expressions.BareName.{BareName}
 use Rattle.star_grammar.specs.declared.bare_expressions.BareParam.{BareParam}
 use Rattle.star_grammar.specs.declared.bare_statements.BareLoadName.{BareLoadName}
-use Rattle.star_grammar.specs.declared.bare_statements.BareStmt.{BareStmt, ind-BareStmt, fold-roll-BareStmt, map-BareStmt, roll-BareStmt}
-use Rattle.star_grammar.specs.declared.bare_statements.BareStmtKind.TheOpen.{BareStmt-F, BareStmtKind-F}
-use Rattle.star_grammar.specs.declared.bare_statements.BareStmtKind.{BareStmtKind, fold-roll-BareStmtKind, map-BareStmtKind, roll-BareStmtKind}
+use Rattle.star_grammar.specs.declared.bare_statements.BareStmt.{BareStmt}
+use Rattle.star_grammar.specs.declared.bare_statements.BareStmtKind.TheOpen.{BareStmtKind-F}
 use Rattle.star_names.specs.Variables.{Names}
 use Rattle.star_scopes.specs.ExprMaking.{params_made}
 use Rattle.star_scopes.specs.ExprMeaning.{param_meaning}
@@ -106,18 +106,9 @@ def-fine free scopes name params body line =
     bind-good p q none none functions_of_kind loads_of_kind (finish place (def_code name.name made_params made line)) (λ _. pure (st.Def place to)) (finish-good p q place (def_code name.name made_params made line) (omega arith) loaded) (λ _ g h more _ _ _.
     pure-good g h functions_of_kind loads_of_kind (st.Def place to) (omega (arith, is.functions_of_kind-Def place to)) (omega (arith, is.loads_of_kind-Def place to))))))
 
--- ---- a layer of fine parts is fine
+-- ---- a construct of fine parts is fine
 
-abbrev bare-kind : BareStmtKind-F FineKind FineStmt → BareStmtKind-F BareStmtKind BareStmt
-bare-kind layer = map-BareStmtKind FineKind FineStmt BareStmtKind BareStmt bare bare layer
-
-abbrev bare-stmt : BareStmt-F FineKind FineStmt → BareStmt-F BareStmtKind BareStmt
-bare-stmt layer = map-BareStmt FineKind FineStmt BareStmtKind BareStmt bare bare layer
-
-abbrev meant-kind : BareStmtKind-F FineKind FineStmt → BareStmtKind-F KindMeaning StmtMeaning
-meant-kind layer = map-BareStmtKind BareStmtKind BareStmt KindMeaning StmtMeaning kind_meaning stmt_meaning (bare-kind layer)
-
-kind-layer : (layer : BareStmtKind-F FineKind FineStmt) (line : ℕ) (free : Names) (scopes : List Names) → Good 0 0 functions_of_kind loads_of_kind (kind_made (meant-kind layer) line free scopes)
+kind-layer : (layer : KindParts KindFine StmtFine) (line : ℕ) (free : Names) (scopes : List Names) → Good 0 0 functions_of_kind loads_of_kind (kind_made (meant-kind KindFine StmtFine layer) line free scopes)
 kind-layer (BareStmtKind-F.Def name params body) line free scopes = def-fine free scopes name params body line
 kind-layer (BareStmtKind-F.If test chosen other) line free scopes = if-fine free scopes test chosen other
 kind-layer (BareStmtKind-F.For to over body) line free scopes = for-fine free scopes to over body
@@ -138,18 +129,14 @@ stmt-layer kind line free scopes =
 
 -- ---- each tree is fine
 
-kind-rolled : (layer : BareStmtKind-F FineKind FineStmt) → KindFine (kind_meaning (roll-BareStmtKind (bare-kind layer)))
-unfolding kind_meaning stmt_meaning
-kind-rolled layer = subst KindFine (sym (fold-roll-BareStmtKind KindMeaning StmtMeaning kind_step stmt_step (bare-kind layer))) (record { kind = kind-layer layer })
+kind-fine : (layer : KindParts KindFine StmtFine) → KindFine (kind_step (meant-kind KindFine StmtFine layer))
+kind-fine layer = record { kind = kind-layer layer }
 
-stmt-rolled : (layer : BareStmt-F FineKind FineStmt) → StmtFine (stmt_meaning (roll-BareStmt (bare-stmt layer)))
-unfolding kind_meaning stmt_meaning
-stmt-rolled layer = subst StmtFine (sym (fold-roll-BareStmt KindMeaning StmtMeaning kind_step stmt_step (bare-stmt layer))) (record { stmt = stmt-layer layer.kind layer.line })
+layer-fine : (layer : StmtParts KindFine StmtFine) → StmtFine (stmt_step (meant-stmt KindFine StmtFine layer))
+layer-fine layer = record { stmt = stmt-layer layer.kind layer.line }
 
 pub stmt-fine : (tree : BareStmt) → StmtFine (stmt_meaning tree)
-stmt-fine = ind-BareStmt (λ tree. KindFine (kind_meaning tree)) (λ tree. StmtFine (stmt_meaning tree))
-    (λ tree layer is. subst (λ one. KindFine (kind_meaning (roll-BareStmtKind one))) is (kind-rolled layer))
-    (λ tree layer is. subst (λ one. StmtFine (stmt_meaning (roll-BareStmt one))) is (stmt-rolled layer))
+stmt-fine = of-stmt KindFine StmtFine kind-fine layer-fine
 
 pub all-fine : (free : Names) (scopes : List Names) (body : List BareStmt) → Good 0 0 (of_each functions_of_stmt) (of_each loads_of_stmt) (body_made free scopes (map stmt_meaning body))
 unfolding body_made

@@ -1,9 +1,7 @@
 -- Variables, as they are counted again.
-use Rattle.std.proofs.Common.{◌≡◌, ℕ, suc, ◌<◌, Bool, true, false, not, cond, true≢false, eqb, T, nat_lt, ◌&&◌, ◌||◌, ◌+◌, List, [], ◌∷◌, length, Option, Some, None, position, arith, refl, ap, subst, sym}
-use Rattle.std.proofs.lemmas.Bool.{and_from, eqb-true, ltb-true}
+use Rattle.std.proofs.Common.{◌≡◌, ℕ, true, eqb, List, length, Option, Some, None, arith, refl, subst, sym}
+use Rattle.std.proofs.lemmas.Bool.{and_from}
 use Rattle.std.proofs.lemmas.Slice.Eq.{bytes_eq-Decides, slice_eq-Decides}
-use Rattle.std.specs.List.{list_any, prefix_len}
-use Rattle.std.specs.Str.{bytes_eq}
 use Rattle.star_conditions.proofs.FreeUses.{FreeThere, has-place}
 use Rattle.star_conditions.specs.Counted.{is_place, is_variable, same_scopes, variable_counted}
 use Rattle.star_names.specs.Variables.{Names, found, place}
