@@ -1,6 +1,5 @@
 -- What a text is to each dialect: Bazel, ".bzl files" and "MODULE.bazel files".
 use Rattle.std.specs.Prelude.{◌≡◌, ℕ, List, Option, Some, None, Result, Ok, Err, ⊤}
-use Rattle.bz_base.specs.Answers.{Gives}
 use Rattle.bz_base.specs.declared.memory.Miss.{Miss}
 use Rattle.bz_base.specs.declared.memory.Miss.TheVariants.{OutOfMemory, Because}
 use Rattle.star_core.specs.declared.files.File.{File}
