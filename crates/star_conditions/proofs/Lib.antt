@@ -18,6 +18,7 @@ pub mod MeaningInduction
 pub mod NestingLayers
 pub mod PlaceLayers
 pub mod PlacesMade
+pub mod Slots
 pub mod SpelledExpressions
 pub mod SpelledParts
 pub mod SpelledStatements

@@ -1,5 +1,5 @@
 -- The variables of a file's trees, counted again from the trees alone: the Starlark specification, "Name binding and variables".
-use Rattle.std.specs.Prelude.{◌≡◌, ℕ, Bool, true, false, ◌&&◌, eqb, bytes_eq, List, [], ◌∷◌, length, get_or, map, Option, Some, None, option_map, EachIndex}
+use Rattle.std.specs.Prelude.{◌≡◌, ℕ, ◌<◌, Bool, true, false, ◌&&◌, eqb, bytes_eq, List, [], ◌∷◌, ◌++◌, length, get_or, map, Option, Some, None, option_map, EachIndex}
 use Rattle.std.specs.Cmp.Lexicographic.{pointwise}
 use Rattle.star_core.specs.declared.files.File.{File}
 use Rattle.star_core.specs.declared.files.FnBody.{FnBody}
@@ -203,3 +203,8 @@ pub record VariablesAreCounted (file : File) : Type 0 where
   pub around : ℕ → List Names
   pub body : all_counted (map (stmt_in file.free file.loads around) file.body) (file_variables file.free file.loads around file.body ∷ []) ≡ true
   pub functions : EachIndex file.functions (λ place. code_counted file.free file.loads around (get_or file.functions place begun) (around place) ≡ true)
+
+-- A variable's slot is one of those of its scope, where the free names stand behind the scopes, and has its name there.
+pub record StandsThere (free : Names) (scopes : List Names) (variable : Var) : Type 0 where
+  pub slot : variable.slot < length (get_or (scopes ++ free ∷ []) variable.scope [])
+  pub name : get_or (get_or (scopes ++ free ∷ []) variable.scope []) variable.slot [] ≡ variable.name

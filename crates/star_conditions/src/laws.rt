@@ -1,14 +1,16 @@
 //! What every resolved file meets.
-ghost use Rattle.std.specs.Prelude.{◌≡◌, ℕ, List, Ok};
-ghost use Rattle.star_conditions.specs.Counted.{VariablesAreCounted};
+ghost use Rattle.std.specs.Prelude.{◌≡◌, ℕ, true, List, Ok};
+ghost use Rattle.star_conditions.specs.Counted.{StandsThere, VariablesAreCounted, variable_counted};
 ghost use Rattle.star_conditions.specs.Nesting.{NestedWithin};
 ghost use Rattle.star_conditions.specs.Orders.{HasNoRefusedForm};
 ghost use Rattle.star_conditions.specs.Places.{PlacesAreThere};
 ghost use Rattle.star_conditions.specs.WellFormed.{WellFormed};
 ghost use Rattle.star_core.specs.declared.files.File.{File};
+ghost use Rattle.star_core.specs.declared.trees.Var.{Var};
 ghost use Rattle.star_grammar.specs.declared.bare_statements.BareFile.{BareFile};
 ghost use Rattle.star_grammar.specs.declared.bare_statements.BareStmt.{BareStmt};
 ghost use Rattle.star_grammar.specs.Texts.{Spelled};
+ghost use Rattle.star_names.specs.Variables.{Names};
 ghost use Rattle.star_scopes.specs.declared.dialects.Dialect.{Dialect};
 ghost use Rattle.star_scopes.specs.Files.{resolved};
 
@@ -20,6 +22,11 @@ pub fn places_are_there()
 /// Each variable of a resolved file stands at the scope and the slot that its name has there, counted again from the file's trees.
 pub fn variables_are_counted()
     ensures { (dialect : Dialect) (body : List BareStmt) (file : File) → resolved dialect body ≡ Ok file → VariablesAreCounted file }
+{}
+
+/// A variable that is counted right has its name at its slot, in one of the scopes round it or among the free names behind them.
+pub fn counted_variables_stand_there()
+    ensures { (free : Names) (scopes : List Names) (variable : Var) → variable_counted free variable scopes ≡ true → StandsThere free scopes variable }
 {}
 
 /// No tree of a file that is spelled and resolved, and no function of it, is nested deeper than the grammar allows.
