@@ -1,4 +1,3 @@
-pub mod CutLists
 pub mod PlainLaws
 pub mod PlainLayers
 pub mod PlainOrigins

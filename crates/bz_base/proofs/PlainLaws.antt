@@ -5,7 +5,7 @@ use Rattle.std.specs.List.{list_all}
 use Rattle.serde_json.specs.Data.{Data, no_items, item, null, boolean, number, string, array}
 use Rattle.serde_json.specs.Find.{of_integer}
 use Rattle.serde_json.specs.View.{items_of}
-use Rattle.bz_base.specs.Cuts.{cut_at_root}
+use Rattle.bz_text.specs.Cuts.{cut_at_root}
 use Rattle.bz_base.specs.Names.{is_canonical_byte, is_label_byte, is_package}
 use Rattle.bz_base.specs.PlainLabels.{is_label, label_of, rooted_label, target_label}
 use Rattle.bz_base.specs.PlainTexts.{json_of, json_of_pair, label_text, tagged}
@@ -17,7 +17,7 @@ use Rattle.bz_base.specs.declared.plain_values.Plain.TheVariants.{rolls-None, ro
 use Rattle.bz_base.specs.declared.plain_values.Plain.TheOpen.{Plain-F}
 use Rattle.bz_base.specs.declared.plain_values.PlainPair.{PlainPair}
 use Rattle.std.proofs.lemmas.List.{append_assoc}
-use Rattle.bz_base.proofs.CutLists.{Lacks, cut-at}
+use Rattle.bz_text.proofs.CutLists.{Lacks, cut-at}
 use Rattle.bz_base.proofs.PlainLayers.{items_within-suc, pairs_within-suc, plain_within_layer}
 
 -- ---- labels

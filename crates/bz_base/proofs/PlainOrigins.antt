@@ -6,7 +6,7 @@ use Rattle.std.proofs.lemmas.Slice.Eq.{bytes_eq-Decides}
 use Rattle.serde_json.specs.Data.{Data, Num, unsigned, negative, float, Items, no_items, item, no_members, member, null, boolean, number, string, array, object}
 use Rattle.serde_json.specs.Find.{as_array, as_str}
 use Rattle.serde_json.specs.View.{items_of}
-use Rattle.bz_base.specs.Cuts.{behind, cut, cut_at_root}
+use Rattle.bz_text.specs.Cuts.{behind, cut, cut_at_root}
 use Rattle.bz_base.specs.Labels.{IsLabel}
 use Rattle.bz_base.specs.PlainLabels.{is_label, label_of, marked_label, not_plain, rooted_label, target_label}
 use Rattle.bz_base.specs.PlainTexts.{json_of, json_of_pair, label_text, tagged}
@@ -16,7 +16,7 @@ use Rattle.bz_base.specs.declared.plain_labels.NotPlain.{NotPlain}
 use Rattle.bz_base.specs.declared.plain_values.Plain as plain
 use Rattle.bz_base.specs.declared.plain_values.Plain.{Plain}
 use Rattle.bz_base.specs.declared.plain_values.PlainPair.{PlainPair}
-use Rattle.bz_base.proofs.CutLists.{IsBehind, IsBehind-behind, IsCut, IsCut-cut}
+use Rattle.bz_text.proofs.CutLists.{IsBehind, IsBehind-behind, IsCut, IsCut-cut}
 use Rattle.bz_base.proofs.PlainLaws.{json_of-None, json_of-Flag, json_of-Int, json_of-Text, json_of-Label, json_of-Items, json_of-Pairs, json_of-pair, depth-None, depth-Flag, depth-Int, depth-Text, depth-Label, depth-Items, depth-Pairs, depth-pair, good-None, good-Flag, good-Int, good-Text, good-Label, good-Items, good-Pairs, good-pair, written}
 use Rattle.bz_base.proofs.PlainLayers.{items_within-suc, pairs_within-suc, plain_within_layer}
 

@@ -5,9 +5,9 @@ use Rattle.std.proofs.lemmas.List.Splits.{slice_split-cons_yes, slice_split-cons
 use Rattle.std.proofs.Math.Dec.{eqb}
 use Rattle.std.specs.List.{onto_first}
 use denote.Ref.{Bor}
-use Rattle.bz_base.specs.Cuts.{cut}
+use Rattle.bz_text.specs.Cuts.{cut}
 use Rattle.bz_base.specs.Paths.{segments_of}
-use Rattle.bz_base.proofs.CutLists.{Lacks, IsCut, IsCut-cut}
+use Rattle.bz_text.proofs.CutLists.{Lacks, IsCut, IsCut-cut}
 
 pub segments_of-uncut : (text : List ℕ) → Lacks 47 text → segments_of text ≡ text ∷ []
 segments_of-uncut [] lacks = refl

@@ -1,6 +1,6 @@
 -- Labels as they are printed, taken apart: Bazel's "Labels".
 use Rattle.std.specs.Prelude.{ℕ, Bool, ◌&&◌, ◌||◌, List, [], Result, Ok, Err, Option, None, Some, option_and_then, bytes_eq, if◌then◌else◌}
-use Rattle.bz_base.specs.Cuts.{behind, cut, cut_at_root}
+use Rattle.bz_text.specs.Cuts.{behind, cut, cut_at_root}
 use Rattle.bz_base.specs.Names.{is_canonical, is_package, is_segmented}
 use Rattle.bz_base.specs.declared.labels.Label.{Label}
 use Rattle.bz_base.specs.declared.plain_labels.NotPlain.{NotPlain}

@@ -1,7 +1,7 @@
 //! What a module file declares. Each `line` is that of the declaring call.
 use crate::plain_values::Named;
-use crate::sequence::Seq;
-use crate::text::Txt;
+use bz_text::Seq;
+use bz_text::Txt;
 
 /// A `bazel_dep`. An empty `apparent` is a dependency without a repository name of its own.
 #[derive(Debug, Drop)]

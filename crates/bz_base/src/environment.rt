@@ -1,6 +1,6 @@
 //! The environment that a run sees.
-use crate::sequence::Seq;
-use crate::text::Txt;
+use bz_text::Seq;
+use bz_text::Txt;
 
 /// An environment variable and its value.
 #[derive(Debug, Drop)]

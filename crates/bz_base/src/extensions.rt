@@ -1,8 +1,8 @@
 //! Extensions and the repositories that they declare.
 use crate::labels::Label;
 use crate::plain_values::Named;
-use crate::sequence::Seq;
-use crate::text::Txt;
+use bz_text::Seq;
+use bz_text::Txt;
 
 /// An extension: the file that defines it, and the name under which that exports it.
 #[derive(Debug, Drop)]

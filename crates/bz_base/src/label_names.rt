@@ -5,7 +5,7 @@ ghost use Rattle.bz_base.specs.Names;
 ghost use Rattle.bz_base.specs.Names.{is_canonical_byte, is_label_byte, is_segment};
 ghost use Rattle.bz_base.specs.Paths.{segments_of};
 
-use crate::text_cuts::cut_at;
+use bz_text::cut_at;
 
 pub(crate) fn is_canonical(text: &str) -> bool
     ensures { result ≡ Names.is_canonical text.now }

@@ -1,8 +1,8 @@
 //! Labels with a canonical repository name.
 ghost use Rattle.std.specs.Prelude.{◌≡◌, ◌↔◌, IfOk, IsTrue};
 
-use crate::memory::Mem;
-use crate::text::Txt;
+use bz_text::Mem;
+use bz_text::Txt;
 use std::alloc::Global;
 
 /// A file or target: its repository by canonical name, its package there and its name in the package.

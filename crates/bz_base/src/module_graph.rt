@@ -1,8 +1,8 @@
 //! The module versions that are discovered, and those that are selected.
 use crate::declarations::ModuleDecl;
 use crate::module_key::Key;
-use crate::sequence::Seq;
-use crate::text::Txt;
+use bz_text::Seq;
+use bz_text::Txt;
 
 /// A discovered module version. Its needs are the keys that its dependencies mean, one per dependency in order; an empty `registry` is none.
 #[derive(Debug, Drop)]

@@ -1,5 +1,5 @@
 //! Module keys.
-use crate::text::Txt;
+use bz_text::Txt;
 
 /// The key of a module version. The root's key is two empty texts where its file names none.
 #[derive(Debug, Drop)]

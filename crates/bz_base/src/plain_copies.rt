@@ -1,7 +1,7 @@
 //! Copies of plain values.
 ghost use Rattle.std.specs.Prelude.{◌≡◌, IfOk};
 
-use crate::memory::Mem;
+use bz_text::Mem;
 use crate::plain_values::{Plain, PlainPair};
 use sqlite_items::Items;
 use std::alloc::Global;
@@ -58,7 +58,7 @@ fn pairs_copy(alloc: Global, pairs: &[PlainPair]) -> Mem<Items<PlainPair>>
 mod tests {
     use super::*;
     use crate::labels::Label;
-    use crate::text::Txt;
+    use bz_text::Txt;
     use std::test::Fail;
 
     #[test]

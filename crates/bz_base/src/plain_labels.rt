@@ -1,15 +1,15 @@
 //! Labels read from the text that is printed of them.
 ghost use Rattle.std.specs.Prelude.{◌≡◌, None, Some, IfNone, IfSome};
-ghost use Rattle.bz_base.specs.Answers.{Gives};
-ghost use Rattle.bz_base.specs.Cuts.{cut, cut_at_root};
+ghost use Rattle.bz_text.specs.Answers.{Gives};
+ghost use Rattle.bz_text.specs.Cuts.{cut, cut_at_root};
 ghost use Rattle.bz_base.specs.PlainLabels;
 ghost use Rattle.bz_base.specs.PlainLabels.{behind_marks, good_label, label_of, rooted_label, target_label};
 
 use crate::label_names::{is_canonical, is_package, is_segmented};
 use crate::labels::Label;
-use crate::memory::{May, Miss};
-use crate::text::Txt;
-use crate::text_cuts::{cut_at, cut_at_double_slash, text_behind};
+use bz_text::{May, Miss};
+use bz_text::Txt;
+use bz_text::{cut_at, cut_at_double_slash, text_behind};
 use std::alloc::Global;
 
 /// The JSON is that of no plain value, or of one that is too deep.

@@ -2,14 +2,14 @@
 ghost use Rattle.std.specs.Prelude.{◌≡◌, List, Ok, Some, None, IfNone, IfSome, option_map};
 ghost use Rattle.serde_json.specs.View.{view, items_view, members_view, number_view};
 ghost use Rattle.serde_json.specs.Find.{as_str, as_array};
-ghost use Rattle.bz_base.specs.Answers.{Gives};
+ghost use Rattle.bz_text.specs.Answers.{Gives};
 ghost use Rattle.bz_base.specs.PlainReading;
 ghost use Rattle.bz_base.specs.PlainReading.{each_after, integer_of, label_under, pair_of, pairs_under, plain_layer, plain_of, plain_within, tagged_plain, two_of};
 
-use crate::memory::{May, Miss};
+use bz_text::{May, Miss};
 use crate::plain_labels::{NotPlain, read_label};
 use crate::plain_values::{Plain, PlainPair};
-use crate::text::Txt;
+use bz_text::Txt;
 use serde_json::{Map, Number, Value};
 use sqlite_items::Items;
 use std::alloc::Global;

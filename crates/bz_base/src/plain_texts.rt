@@ -5,7 +5,7 @@ ghost use Rattle.serde_json.specs.Data.{array, item, no_items};
 ghost use Rattle.bz_base.specs.PlainTexts.{json_of, json_of_pair, label_text, tagged};
 
 use crate::labels::Label;
-use crate::memory::Mem;
+use bz_text::Mem;
 use crate::plain_values::{Plain, PlainPair};
 use serde_json::{Map, Value};
 use std::alloc::Global;
@@ -95,7 +95,7 @@ fn label_string(alloc: Global, label: &Label) -> Mem<String>
 #[cfg(test)]
 mod tests {
     use super::*;
-    use crate::text::Txt;
+    use bz_text::Txt;
     use sqlite_items::Items;
     use std::test::Fail;
 

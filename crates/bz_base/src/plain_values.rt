@@ -1,6 +1,6 @@
 //! Plain values: those of attributes, tags and declared repositories.
 use crate::labels::Label;
-use crate::text::Txt;
+use bz_text::Txt;
 use sqlite_items::Items;
 
 /// A value without identity. A dictionary is the list of its pairs, in order.

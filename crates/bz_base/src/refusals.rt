@@ -2,7 +2,7 @@
 ghost use Rattle.std.specs.Prelude.{◌≡◌};
 ghost use Rattle.bz_base.specs.Refusals.{code_name};
 
-use crate::text::Txt;
+use bz_text::Txt;
 
 /// Why a run refuses its input.
 #[derive(Clone, Copy, Debug, PartialEq, Eq)]

@@ -1,11 +1,11 @@
 //! Paths of the tree, from the workspace or from `/` on.
 ghost use Rattle.std.specs.Prelude.{◌≡◌, ◌==◌, [], ◌∷◌, ◌++◌, List, ℕ, Ok, Result, IfOk, IfNone, IfSome, ◌<◌, string_bytes, slice_get, length, ◌-◌, flat_map, OnOk};
-ghost use Rattle.bz_base.specs.Answers.{Gives};
+ghost use Rattle.bz_text.specs.Answers.{Gives};
 ghost use Rattle.bz_base.specs.Paths.{above, has_nul, is_name, is_rooted, joined, names_joined, resolved, goes_up, segments_of, spelled, stays, stepped, walked};
 
-use crate::memory::{May, Mem, Miss};
-use crate::sequence::Seq;
-use crate::text::Txt;
+use bz_text::{May, Mem, Miss};
+use bz_text::Seq;
+use bz_text::Txt;
 use std::alloc::Global;
 use std::marker::Model;
 

@@ -1,9 +1,9 @@
 -- What a resolved text tells of the grammar of labels and of the mapping.
 use Rattle.std.proofs.Common.{◌≡◌, ℕ, List, Result, Ok, Err, Option, None, Some, IfOk, refl, subst, ◌∙◌, ap}
-use Rattle.bz_base.specs.Answers.{Gives}
+use Rattle.bz_text.specs.Answers.{Gives}
 use Rattle.bz_base.specs.declared.labels.Label.{Label}
-use Rattle.bz_base.specs.declared.memory.Miss.{Miss}
-use Rattle.bz_base.specs.declared.memory.Miss.TheVariants.{OutOfMemory, Because}
+use Rattle.bz_text.specs.declared.memory.Miss.{Miss}
+use Rattle.bz_text.specs.declared.memory.Miss.TheVariants.{OutOfMemory, Because}
 use Rattle.bz_label.specs.declared.label_text.BadLabel.{BadLabel as BadText}
 use Rattle.bz_label.specs.declared.label_text.LabelText.{LabelText}
 use Rattle.bz_label.specs.declared.label_text.RepoPart.{RepoPart}

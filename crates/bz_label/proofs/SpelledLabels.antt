@@ -4,11 +4,11 @@ use Rattle.std.proofs.lemmas.Bool.{and_parts, and_from, cond-true, cond-false, c
 use Rattle.std.proofs.lemmas.List.Splits.{slice_split-cons_yes}
 use Rattle.std.proofs.Math.Dec.{eqb}
 use Rattle.std.specs.List.{list_all}
-use Rattle.bz_base.specs.Answers.{Gives}
+use Rattle.bz_text.specs.Answers.{Gives}
 use Rattle.bz_base.specs.Names.{is_apparent, is_apparent_byte, is_canonical, is_canonical_byte, is_label_byte, is_package, is_segment, is_segmented}
 use Rattle.bz_base.specs.Paths.{segments_of}
-use Rattle.bz_base.specs.declared.memory.Miss.{Miss}
-use Rattle.bz_base.specs.declared.memory.Miss.TheVariants.{OutOfMemory, Because}
+use Rattle.bz_text.specs.declared.memory.Miss.{Miss}
+use Rattle.bz_text.specs.declared.memory.Miss.TheVariants.{OutOfMemory, Because}
 use Rattle.bz_label.specs.declared.label_text.BadLabel.{BadLabel}
 use Rattle.bz_label.specs.declared.label_text.LabelText.{LabelText}
 use Rattle.bz_label.specs.declared.label_text.RepoPart.{RepoPart}

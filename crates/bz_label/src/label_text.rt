@@ -1,6 +1,6 @@
 //! The text of a label, taken apart.
 ghost use Rattle.std.specs.Prelude.{◌≡◌, IfOk, IfErr, List, ℕ, Ok, Some, None};
-ghost use Rattle.bz_base.specs.Answers.{Gives};
+ghost use Rattle.bz_text.specs.Answers.{Gives};
 ghost use Rattle.bz_label.specs.Cuts.{behind, cut, cut_at_root};
 ghost use Rattle.bz_label.specs.Grammar.{SpellsLabel};
 ghost use Rattle.bz_label.specs.Parts.{alone_parts, apparent_repo, at_home, bad_label, canonical_repo, label_parts, named_target, package_target, repo_alone, repo_of, rooted_parts, target_parts};

@@ -1,7 +1,7 @@
 //! Repository mappings.
 ghost use Rattle.std.specs.Prelude.{◌≡◌, ◌↔◌, ◌<◌, ◌++◌, [], ◌∷◌, Err, None, Some, IsSome, OnOk, OnErr, length, slice_get};
 ghost use Rattle.std.specs.Option.{option_copied};
-ghost use Rattle.bz_base.specs.declared.memory.Miss.TheVariants.{Because};
+ghost use Rattle.bz_text.specs.declared.memory.Miss.TheVariants.{Because};
 ghost use Rattle.bz_label.specs.Mappings.{NamesDiffer, found, put, taken_name};
 
 use bz_base::{May, Mem, Miss, OutOfMemory, Txt};

@@ -1,7 +1,7 @@
 //! What a label's text means in its home.
 ghost use Rattle.std.specs.Prelude.{◌≡◌, IfOk, List, ℕ, Err};
-ghost use Rattle.bz_base.specs.Answers.{Gives};
-ghost use Rattle.bz_base.specs.declared.memory.Miss.TheVariants.{Because};
+ghost use Rattle.bz_text.specs.Answers.{Gives};
+ghost use Rattle.bz_text.specs.declared.memory.Miss.TheVariants.{Because};
 ghost use Rattle.bz_label.specs.Grammar.{SpellsLabel};
 ghost use Rattle.bz_label.specs.Resolution.{Hides, Resolves, canonical_of, placed, resolved, visible};
 ghost use Rattle.bz_label.specs.Mappings.{found};

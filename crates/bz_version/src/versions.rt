@@ -1,6 +1,6 @@
 //! Versions.
 ghost use Rattle.std.specs.Prelude.{◌≡◌, ◌↔◌, [], IfOk, IsTrue, Ok};
-ghost use Rattle.bz_base.specs.Answers.{Gives};
+ghost use Rattle.bz_text.specs.Answers.{Gives};
 ghost use Rattle.bz_version.specs.Precedence.{precedence};
 ghost use Rattle.bz_version.specs.Scan.{version_of};
 

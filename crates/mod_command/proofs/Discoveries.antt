@@ -5,8 +5,8 @@ use Rattle.std.proofs.lemmas.Bool.{leb-false}
 use Rattle.std.proofs.lemmas.List.{drop_more, length-append, length_push}
 use Rattle.std.proofs.lemmas.Option.{get_or_from_slice_get, slice_get_cases, slice_get_within}
 use Rattle.std.specs.List.{list_any}
-use Rattle.bz_base.specs.Answers.{Gives}
-use Rattle.bz_base.specs.declared.memory.Miss.{Miss}
+use Rattle.bz_text.specs.Answers.{Gives}
+use Rattle.bz_text.specs.declared.memory.Miss.{Miss}
 use Rattle.bz_base.specs.declared.module_graph.GraphNode.{GraphNode}
 use Rattle.bz_base.specs.declared.module_key.Key.{Key}
 use Rattle.bz_base.specs.declared.refusals.Refusal.{Refusal}

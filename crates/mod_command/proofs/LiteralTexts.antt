@@ -6,9 +6,9 @@ use Rattle.std.specs.List.{list_all}
 use Rattle.mod_command.specs.LiteralForms.{lines_from, texts_of, with_line}
 use Rattle.mod_command.specs.LiteralLines.{line_of}
 use Rattle.mod_command.specs.declared.literal_line.LiteralLine.{LiteralLine}
-use Rattle.bz_base.specs.Answers.{Gives}
-use Rattle.bz_base.specs.declared.memory.Miss.{Miss}
-use Rattle.bz_base.specs.declared.memory.Miss.TheVariants.{OutOfMemory, Because}
+use Rattle.bz_text.specs.Answers.{Gives}
+use Rattle.bz_text.specs.declared.memory.Miss.{Miss}
+use Rattle.bz_text.specs.declared.memory.Miss.TheVariants.{OutOfMemory, Because}
 use Rattle.mod_command.specs.declared.literal_line.NotLiteral.{NotLiteral}
 use Rattle.mod_command.proofs.Cuts.{split-cons}
 

@@ -1,8 +1,8 @@
 -- What holds of the files that a tree tells.
 use Rattle.std.proofs.Common.{◌≡◌, ℕ, ◌≤◌, List, Option, None, Some, IfSome, Result, Err, refl, ◌∙◌, subst, arith}
-use Rattle.bz_base.specs.Answers.{Gives}
-use Rattle.bz_base.specs.declared.memory.Miss.{Miss}
-use Rattle.bz_base.specs.declared.memory.Miss.TheVariants as miss
+use Rattle.bz_text.specs.Answers.{Gives}
+use Rattle.bz_text.specs.declared.memory.Miss.{Miss}
+use Rattle.bz_text.specs.declared.memory.Miss.TheVariants as miss
 use Rattle.bz_base.specs.declared.refusals.Refusal.{Refusal}
 use Rattle.mod_command.specs.Stopping.{Files, GivesOver, stop_of_miss}
 use Rattle.mod_command.specs.declared.stops.Stop.{Stop}

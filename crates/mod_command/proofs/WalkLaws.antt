@@ -8,7 +8,7 @@ use Rattle.std.proofs.lemmas.Map.Keys.{IsDistinct-push}
 use Rattle.std.proofs.lemmas.Slice.Zip.{AllZip-long}
 use Rattle.std.specs.Cmp.{IsEquivalence}
 use Rattle.std.specs.List.{AllByRecursion, AllZip, IsDistinct, list_any}
-use Rattle.bz_version.proofs.Kept.{AllByRecursion-append}
+use Rattle.bz_text.proofs.ListWalks.{AllByRecursion-append}
 use Rattle.mod_command.proofs.EachItem.{AllByRecursion-between, AllByRecursion-weaker, AllZip-apart, AllZip-pushed}
 use Rattle.mod_command.proofs.WalkSteps.{Grows, Grows-on, Grows-same, Keeps, walk_on, walk_on-ended, walk_on-refused, walk_on-step}
 use Rattle.mod_command.specs.Walks.{Rules, Walk, Walked, next_level, unless_barred, walked_with, with_ask, with_asks, with_node}

@@ -1,8 +1,8 @@
 -- What a part of a command gave over a tree that may tell its files.
 use Rattle.std.specs.Prelude.{◌≡◌, ℕ, List, Option, IfSome, Result, Ok, Err, ⊤}
 use Rattle.bz_base.specs.Counts.{Rose}
-use Rattle.bz_base.specs.declared.memory.Miss.{Miss}
-use Rattle.bz_base.specs.declared.memory.Miss.TheVariants as miss
+use Rattle.bz_text.specs.declared.memory.Miss.{Miss}
+use Rattle.bz_text.specs.declared.memory.Miss.TheVariants as miss
 use Rattle.bz_base.specs.declared.refusals.Refusal.{Refusal}
 use Rattle.bz_tree.specs.declared.tree.Found.{Found}
 use Rattle.mod_command.specs.declared.stops.Stop.{Stop}

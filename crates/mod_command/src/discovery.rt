@@ -1,6 +1,6 @@
 //! Discovery: from the root on each module that is asked for is read, breadth first, and its dependencies ask for further ones. What comes in is the root's declaration and the tree; what goes out is the graph of all that is asked for. Kept are the asks that are known and the nodes to which the first of them led; the next ask is that behind the last node.
 ghost use Rattle.std.specs.Prelude.{◌≡◌, ◌≤◌, ◌<◌, ◌-◌, [], ◌∷◌, IfOk, Ok, false, true, length, map};
-ghost use Rattle.bz_base.specs.Answers.{Gives};
+ghost use Rattle.bz_text.specs.Answers.{Gives};
 ghost use Rattle.mod_command.specs.Discovery.{ask_of, asks_of, declared_as, declares, discovered, discovery, discovery_rules, effective, file_text, found_for, graph_walked, means_root, most_keys, no_module_refusal, node_of, node_with, registry_decl, registry_text, root_alone, root_ask, root_key};
 ghost use Rattle.mod_command.specs.ModuleFiles.{declared_in};
 ghost use Rattle.mod_command.specs.Stopping.{GivesOver};

@@ -1,7 +1,7 @@
 //! The asks that are known: a list in order, and a set of their keys by which a further ask is found among them at once.
 ghost use Rattle.std.specs.Prelude.{◌≡◌, ◌∷◌, ◌++◌, [], IfOk, map, slice_get, string_bytes};
 ghost use Rattle.std.specs.Option.{option_copied};
-ghost use Rattle.bz_base.specs.Answers.{Gives};
+ghost use Rattle.bz_text.specs.Answers.{Gives};
 ghost use Rattle.mod_command.specs.Discovery.{bar_of, discovery_rules, too_many_refusal};
 ghost use Rattle.mod_command.specs.KeySets.{pair_of_ask, pairs_of};
 ghost use Rattle.mod_command.specs.Walks.{unless_barred, with_ask};

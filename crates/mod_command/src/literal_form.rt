@@ -1,7 +1,7 @@
 //! A module file in the literal form: ASCII lines that each end with a line feed, with `module` at most once and before every `bazel_dep`.
 ghost use Rattle.std.specs.Prelude.{◌≡◌, ◌∷◌, [], ◌<◌, length, nat_lt, Ok, IfNone, IfSome, is_some, false};
 ghost use Rattle.std.specs.List.{list_all};
-ghost use Rattle.bz_base.specs.Answers.{Gives};
+ghost use Rattle.bz_text.specs.Answers.{Gives};
 ghost use Rattle.mod_command.specs.LiteralLines.{line_of};
 ghost use Rattle.mod_command.specs.LiteralForms.{end_of, is_in_order, lines_from, literal_lines, lines_in_order, texts_of, with_line};
 

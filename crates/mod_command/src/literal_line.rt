@@ -2,7 +2,7 @@
 ghost use Rattle.std.specs.Prelude.{◌≡◌, ◌||◌, [], ◌∷◌, IfNone, IfSome};
 ghost use Rattle.std.specs.Char.{is_ascii_digit, is_ascii_lowercase};
 ghost use Rattle.std.specs.List.{list_all};
-ghost use Rattle.bz_base.specs.Answers.{Gives};
+ghost use Rattle.bz_text.specs.Answers.{Gives};
 ghost use Rattle.bz_base.specs.Names.{begins_and_goes_on, ends, is_joint, is_module_byte, is_module_name};
 ghost use Rattle.mod_command.specs.LiteralLines.{key_of, line_of, line_of_pieces, line_with, pieces_of};
 

@@ -1,6 +1,6 @@
 //! What a module file in the literal form declares.
 ghost use Rattle.std.specs.Prelude.{◌≡◌, IfOk, Ok};
-ghost use Rattle.bz_base.specs.Answers.{Gives};
+ghost use Rattle.bz_text.specs.Answers.{Gives};
 ghost use Rattle.mod_command.specs.LiteralForms.{literal_lines};
 ghost use Rattle.mod_command.specs.ModuleFiles.{declared_by, declared_in, declared_with, dep_at, deps_from, form_refusal, key_declared};
 

@@ -1,6 +1,6 @@
 //! The root file.
 ghost use Rattle.std.specs.Prelude.{◌≡◌, IfOk, codes};
-ghost use Rattle.bz_base.specs.Answers.{Gives};
+ghost use Rattle.bz_text.specs.Answers.{Gives};
 ghost use Rattle.mod_command.specs.RootFiles.{no_root_refusal, root_of};
 
 use crate::module_file::{form, read_module};

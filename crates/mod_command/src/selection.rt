@@ -2,7 +2,7 @@
 ghost use Rattle.std.specs.Prelude.{◌≡◌, ◌<◌, ◌++◌, ◌∷◌, [], IfOk, Ok, OnOk, filter_map, length, map, nat_eq, slice_get};
 ghost use Rattle.std.specs.List.{position_from};
 ghost use Rattle.indexmap.specs.IndexSet.{insert_all};
-ghost use Rattle.bz_base.specs.Answers.{Gives};
+ghost use Rattle.bz_text.specs.Answers.{Gives};
 ghost use Rattle.mod_command.specs.ChoiceTables.{HasChoices, is_kept, listed};
 ghost use Rattle.mod_command.specs.Selection.{chosen_at, chosen_of, is_superior, places_in, places_walked, selected_of, selected_of_nodes};
 

@@ -1,7 +1,7 @@
 -- Conditions on bare trees with their depths, and what it is that each production of the grammar keeps them.
 use Rattle.std.proofs.Common.{◌≡◌, ℕ, ◌+◌, ◌≤◌, ◌<◌, true, ℤ, List, ◌∷◌, All, IfSome, Option, Some, None}
-use Rattle.star_core.specs.declared.trees.BinOp.{BinOp}
-use Rattle.star_core.specs.declared.trees.UnOp.{UnOp}
+use Rattle.star_trees.specs.declared.trees.BinOp.{BinOp}
+use Rattle.star_trees.specs.declared.trees.UnOp.{UnOp}
 use Rattle.star_grammar.specs.declared.bare_expressions.BareArg as arg
 use Rattle.star_grammar.specs.declared.bare_expressions.BareArg.{BareArg}
 use Rattle.star_grammar.specs.declared.bare_expressions.BareClause as clause

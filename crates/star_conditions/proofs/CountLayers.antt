@@ -1,24 +1,24 @@
 -- What each construct binds, and whether its variables are counted right, by its parts.
 use Rattle.std.proofs.Common.{rules, ◌≡◌, ℕ, ℤ, List, map, Option, option_map}
 use Rattle.star_conditions.specs.Counted.{arg_in, arg_counted, clause_in, clause_tally, expr_in, expr_tally, kind_in, kind_tally, pair_in, pair_counted, stmt_in, target_in, target_tally}
-use Rattle.star_core.specs.declared.loads.Load.{Load}
-use Rattle.star_core.specs.declared.trees.Arg as arg
-use Rattle.star_core.specs.declared.trees.Arg.{Arg}
-use Rattle.star_core.specs.declared.trees.Arg.TheOpen.{Arg-F, Clause-F, Expr-F, Target-F}
-use Rattle.star_core.specs.declared.trees.BinOp.{BinOp}
-use Rattle.star_core.specs.declared.trees.Clause as clause
-use Rattle.star_core.specs.declared.trees.Clause.{Clause}
-use Rattle.star_core.specs.declared.trees.Expr as e
-use Rattle.star_core.specs.declared.trees.Expr.{Expr, the_lemmas}
-use Rattle.star_core.specs.declared.trees.ExprPair.{ExprPair, roll-ExprPair}
-use Rattle.star_core.specs.declared.trees.Stmt.{Stmt, roll-Stmt}
-use Rattle.star_core.specs.declared.trees.StmtKind as st
-use Rattle.star_core.specs.declared.trees.StmtKind.{StmtKind}
-use Rattle.star_core.specs.declared.trees.StmtKind.TheOpen.{StmtKind-F}
-use Rattle.star_core.specs.declared.trees.Target as target
-use Rattle.star_core.specs.declared.trees.Target.{Target}
-use Rattle.star_core.specs.declared.trees.UnOp.{UnOp}
-use Rattle.star_core.specs.declared.trees.Var.{Var}
+use Rattle.star_trees.specs.declared.loads.Load.{Load}
+use Rattle.star_trees.specs.declared.trees.Arg as arg
+use Rattle.star_trees.specs.declared.trees.Arg.{Arg}
+use Rattle.star_trees.specs.declared.trees.Arg.TheOpen.{Arg-F, Clause-F, Expr-F, Target-F}
+use Rattle.star_trees.specs.declared.trees.BinOp.{BinOp}
+use Rattle.star_trees.specs.declared.trees.Clause as clause
+use Rattle.star_trees.specs.declared.trees.Clause.{Clause}
+use Rattle.star_trees.specs.declared.trees.Expr as e
+use Rattle.star_trees.specs.declared.trees.Expr.{Expr, the_lemmas}
+use Rattle.star_trees.specs.declared.trees.ExprPair.{ExprPair, roll-ExprPair}
+use Rattle.star_trees.specs.declared.trees.Stmt.{Stmt, roll-Stmt}
+use Rattle.star_trees.specs.declared.trees.StmtKind as st
+use Rattle.star_trees.specs.declared.trees.StmtKind.{StmtKind}
+use Rattle.star_trees.specs.declared.trees.StmtKind.TheOpen.{StmtKind-F}
+use Rattle.star_trees.specs.declared.trees.Target as target
+use Rattle.star_trees.specs.declared.trees.Target.{Target}
+use Rattle.star_trees.specs.declared.trees.UnOp.{UnOp}
+use Rattle.star_trees.specs.declared.trees.Var.{Var}
 use Rattle.star_names.specs.Variables.{Names}
 
 module _ (free : Names) (loads : List Load) (around : ℕ → List Names) where

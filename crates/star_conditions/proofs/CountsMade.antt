@@ -6,8 +6,8 @@ use Rattle.std.proofs.lemmas.Bool.{and_from}
 use Rattle.star_conditions.proofs.FreeUses.{Covered, Each, Grows, both-grow, first-covered, no_use-grows, second-covered}
 use Rattle.star_conditions.proofs.Trees.{Lists}
 use Rattle.star_conditions.specs.Counted.{Counted, Tally, all_counted, bound_of, each_counted, code_counted, no_load}
-use Rattle.star_core.specs.declared.files.FnCode.{FnCode}
-use Rattle.star_core.specs.declared.loads.Load.{Load}
+use Rattle.star_trees.specs.declared.files.FnCode.{FnCode}
+use Rattle.star_trees.specs.declared.loads.Load.{Load}
 use Rattle.star_names.specs.Variables.{Names}
 use Rattle.star_scopes.specs.Bindings.{Binding}
 use Rattle.star_scopes.specs.Making.{Making, ◌>>=◌, pure, each, begin, begun, finish, load}

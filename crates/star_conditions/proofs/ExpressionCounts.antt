@@ -8,17 +8,17 @@ use Rattle.star_conditions.proofs.MeaningInduction.{ArgParts, ClauseParts, ExprP
 use Rattle.star_conditions.proofs.Trees.{With, bare}
 use Rattle.star_conditions.proofs.VariablesFound.{same_scopes-self, variable-counted, variable-named}
 use Rattle.star_conditions.specs.Counted.{Counted, ClauseTally, Tally, arg_in, clause_in, clauses_counted, code_counted, counted_of, each_counted, expr_in, maybe_counted, pair_in, param_tally, plain, same_scopes, target_in}
-use Rattle.star_core.specs.declared.trees.Arg.{Arg}
-use Rattle.star_core.specs.declared.trees.Arg as arg_tree
-use Rattle.star_core.specs.declared.trees.BinOp.{BinOp}
-use Rattle.star_core.specs.declared.trees.Clause.{Clause}
-use Rattle.star_core.specs.declared.trees.Clause as clause_tree
-use Rattle.star_core.specs.declared.trees.Expr as e
-use Rattle.star_core.specs.declared.trees.Expr.{Expr}
-use Rattle.star_core.specs.declared.trees.ExprPair.{roll-ExprPair}
-use Rattle.star_core.specs.declared.trees.Target as target_tree
-use Rattle.star_core.specs.declared.trees.UnOp.{UnOp}
-use Rattle.star_core.specs.declared.files.Param.TheVariants as param_tree
+use Rattle.star_trees.specs.declared.trees.Arg.{Arg}
+use Rattle.star_trees.specs.declared.trees.Arg as arg_tree
+use Rattle.star_trees.specs.declared.trees.BinOp.{BinOp}
+use Rattle.star_trees.specs.declared.trees.Clause.{Clause}
+use Rattle.star_trees.specs.declared.trees.Clause as clause_tree
+use Rattle.star_trees.specs.declared.trees.Expr as e
+use Rattle.star_trees.specs.declared.trees.Expr.{Expr}
+use Rattle.star_trees.specs.declared.trees.ExprPair.{roll-ExprPair}
+use Rattle.star_trees.specs.declared.trees.Target as target_tree
+use Rattle.star_trees.specs.declared.trees.UnOp.{UnOp}
+use Rattle.star_trees.specs.declared.files.Param.TheVariants as param_tree
 use Rattle.star_grammar.specs.declared.bare_expressions.BareArg.TheOpen.{BareArg-F, BareClause-F, BareExpr-F, BareParam-F}
 use Rattle.star_grammar.specs.declared.bare_expressions.BareExpr.{BareExpr}
 use Rattle.star_grammar.specs.declared.bare_expressions.BareParam.{BareParam}
@@ -28,9 +28,9 @@ use Rattle.star_scopes.specs.ExprMeaning.{arg_meaning, arg_step, clause_meaning,
 use Rattle.star_scopes.specs.Making.{pure, finish}
 use Rattle.star_scopes.specs.Meanings.{ArgMeaning, ClauseMeaning, ExprMeaning, PairMeaning, ParamMeaning}
 use Rattle.star_scopes.specs.Scopes.{variable, variables}
-use Rattle.star_core.specs.declared.trees.ExprPair.{ExprPair}
-use Rattle.star_core.specs.declared.trees.Target.{Target}
-use Rattle.star_core.specs.declared.files.Param.{Param}
+use Rattle.star_trees.specs.declared.trees.ExprPair.{ExprPair}
+use Rattle.star_trees.specs.declared.trees.Target.{Target}
+use Rattle.star_trees.specs.declared.files.Param.{Param}
 use Rattle.star_scopes.specs.Bindings.{Binding, each_binds, name_binds, no_binding}
 use Rattle.star_scopes.specs.Binds.{clause_binds, param_binds, target_binds}
 use Rattle.star_scopes.specs.ExprUses.{arg_uses, args_use, call_uses, clause_uses, clauses_use, cond_uses, dict_comp_uses, expr_uses, items_use, lambda_uses, list_comp_uses, maybe_uses, pairs_use, param_uses, params_use, slice_uses, two_use}

@@ -10,19 +10,19 @@ use Rattle.star_conditions.proofs.Made.{Makes, pure-makes, bind-makes, makes-als
 use Rattle.star_conditions.proofs.Conditions.{ForFirst}
 use Rattle.star_conditions.specs.Orders.{ArgForm, ClauseForm, are_clauses, form_of_arg, form_of_clause, is_place, maybe_right, right_code, right_expr, right_pair, right_param, right_target}
 use Rattle.star_conditions.specs.Orders as form
-use Rattle.star_core.specs.declared.files.FnCode.{FnCode}
-use Rattle.star_core.specs.declared.files.Param.{Param}
-use Rattle.star_core.specs.declared.files.Param.TheVariants as param_tree
-use Rattle.star_core.specs.declared.trees.Arg.{Arg}
-use Rattle.star_core.specs.declared.trees.Arg as arg_tree
-use Rattle.star_core.specs.declared.trees.BinOp.{BinOp}
-use Rattle.star_core.specs.declared.trees.Clause.{Clause}
-use Rattle.star_core.specs.declared.trees.Clause as clause_tree
-use Rattle.star_core.specs.declared.trees.Expr as e
-use Rattle.star_core.specs.declared.trees.Expr.{Expr}
-use Rattle.star_core.specs.declared.trees.ExprPair.{roll-ExprPair}
-use Rattle.star_core.specs.declared.trees.Target as target_tree
-use Rattle.star_core.specs.declared.trees.UnOp.{UnOp}
+use Rattle.star_trees.specs.declared.files.FnCode.{FnCode}
+use Rattle.star_trees.specs.declared.files.Param.{Param}
+use Rattle.star_trees.specs.declared.files.Param.TheVariants as param_tree
+use Rattle.star_trees.specs.declared.trees.Arg.{Arg}
+use Rattle.star_trees.specs.declared.trees.Arg as arg_tree
+use Rattle.star_trees.specs.declared.trees.BinOp.{BinOp}
+use Rattle.star_trees.specs.declared.trees.Clause.{Clause}
+use Rattle.star_trees.specs.declared.trees.Clause as clause_tree
+use Rattle.star_trees.specs.declared.trees.Expr as e
+use Rattle.star_trees.specs.declared.trees.Expr.{Expr}
+use Rattle.star_trees.specs.declared.trees.ExprPair.{roll-ExprPair}
+use Rattle.star_trees.specs.declared.trees.Target as target_tree
+use Rattle.star_trees.specs.declared.trees.UnOp.{UnOp}
 use Rattle.star_grammar.specs.declared.bare_expressions.BareArg as bare_arg
 use Rattle.star_grammar.specs.declared.bare_expressions.BareArg.{BareArg}
 use Rattle.star_grammar.specs.declared.bare_expressions.BareClause as bare_clause

@@ -8,17 +8,17 @@ use Rattle.star_conditions.proofs.NestingLayers as is
 use Rattle.star_conditions.proofs.Conditions.{ForFirst}
 use Rattle.star_conditions.specs.Nesting.{depth_of_arg, depth_of_clause, depth_of_code, depth_of_expr, depth_of_pair, depth_of_param, depth_of_target}
 use Rattle.star_conditions.specs.Places.{greatest, number_or_zero}
-use Rattle.star_core.specs.declared.trees.Arg as arg_tree
-use Rattle.star_core.specs.declared.trees.BinOp.{BinOp}
-use Rattle.star_core.specs.declared.trees.Clause as clause_tree
-use Rattle.star_core.specs.declared.trees.Expr as e
-use Rattle.star_core.specs.declared.trees.Expr.{Expr}
-use Rattle.star_core.specs.declared.trees.ExprPair.{roll-ExprPair}
-use Rattle.star_core.specs.declared.trees.Target as target_tree
-use Rattle.star_core.specs.declared.trees.UnOp.{UnOp}
-use Rattle.star_core.specs.declared.files.FnCode.{FnCode}
-use Rattle.star_core.specs.declared.files.Param.{Param}
-use Rattle.star_core.specs.declared.files.Param.TheVariants as param_tree
+use Rattle.star_trees.specs.declared.trees.Arg as arg_tree
+use Rattle.star_trees.specs.declared.trees.BinOp.{BinOp}
+use Rattle.star_trees.specs.declared.trees.Clause as clause_tree
+use Rattle.star_trees.specs.declared.trees.Expr as e
+use Rattle.star_trees.specs.declared.trees.Expr.{Expr}
+use Rattle.star_trees.specs.declared.trees.ExprPair.{roll-ExprPair}
+use Rattle.star_trees.specs.declared.trees.Target as target_tree
+use Rattle.star_trees.specs.declared.trees.UnOp.{UnOp}
+use Rattle.star_trees.specs.declared.files.FnCode.{FnCode}
+use Rattle.star_trees.specs.declared.files.Param.{Param}
+use Rattle.star_trees.specs.declared.files.Param.TheVariants as param_tree
 use Rattle.star_grammar.specs.declared.bare_expressions.BareArg as bare_arg
 use Rattle.star_grammar.specs.declared.bare_expressions.BareArg.{BareArg}
 use Rattle.star_grammar.specs.declared.bare_expressions.BareClause as bare_clause

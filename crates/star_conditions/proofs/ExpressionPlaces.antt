@@ -5,15 +5,15 @@ use Rattle.star_conditions.proofs.PlaceLayers as is
 use Rattle.star_conditions.proofs.MeaningInduction.{ArgParts, ClauseParts, ExprParts, ParamParts, PairParts, meant-arg, meant-clause, meant-expr, meant-pair, meant-param, of-expr, of-param}
 use Rattle.star_conditions.proofs.Trees.{With, bare}
 use Rattle.star_conditions.specs.Places.{greatest, number_or_zero, functions_of_arg, functions_of_clause, functions_of_expr, functions_of_pair, functions_of_param, functions_of_target}
-use Rattle.star_core.specs.declared.trees.Arg as arg_tree
-use Rattle.star_core.specs.declared.trees.BinOp.{BinOp}
-use Rattle.star_core.specs.declared.trees.Clause as clause_tree
-use Rattle.star_core.specs.declared.trees.Expr as e
-use Rattle.star_core.specs.declared.trees.Expr.{Expr}
-use Rattle.star_core.specs.declared.trees.ExprPair.{roll-ExprPair}
-use Rattle.star_core.specs.declared.trees.Target as target_tree
-use Rattle.star_core.specs.declared.trees.UnOp.{UnOp}
-use Rattle.star_core.specs.declared.files.Param.TheVariants as param_tree
+use Rattle.star_trees.specs.declared.trees.Arg as arg_tree
+use Rattle.star_trees.specs.declared.trees.BinOp.{BinOp}
+use Rattle.star_trees.specs.declared.trees.Clause as clause_tree
+use Rattle.star_trees.specs.declared.trees.Expr as e
+use Rattle.star_trees.specs.declared.trees.Expr.{Expr}
+use Rattle.star_trees.specs.declared.trees.ExprPair.{roll-ExprPair}
+use Rattle.star_trees.specs.declared.trees.Target as target_tree
+use Rattle.star_trees.specs.declared.trees.UnOp.{UnOp}
+use Rattle.star_trees.specs.declared.files.Param.TheVariants as param_tree
 use Rattle.star_grammar.specs.declared.bare_expressions.BareArg.TheOpen.{BareArg-F, BareClause-F, BareExpr-F, BareParam-F}
 use Rattle.star_grammar.specs.declared.bare_expressions.BareExpr.{BareExpr}
 use Rattle.star_grammar.specs.declared.bare_expressions.BareParam.{BareParam}

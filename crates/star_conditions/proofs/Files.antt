@@ -6,7 +6,7 @@ use Rattle.star_conditions.proofs.StatementCounts.{all-sound}
 use Rattle.star_conditions.proofs.StatementPlaces.{all-fine}
 use Rattle.star_conditions.specs.Counted.{VariablesAreCounted, all_counted, stmt_in}
 use Rattle.star_conditions.specs.Places.{PlacesAreThere}
-use Rattle.star_core.specs.declared.files.File.{File}
+use Rattle.star_trees.specs.declared.files.File.{File}
 use Rattle.star_grammar.specs.declared.bare_statements.BareStmt.{BareStmt}
 use Rattle.star_names.specs.Variables.{Names}
 use Rattle.star_scopes.specs.declared.dialects.Dialect.{Dialect}

@@ -10,8 +10,8 @@ use Rattle.star_conditions.proofs.SpelledStatements.{IsFile-held}
 use Rattle.star_conditions.proofs.StatementForms as statement
 use Rattle.star_conditions.proofs.StatementForms.{StmtRight, body-right, on_line-right}
 use Rattle.star_conditions.specs.Orders.{HasNoRefusedForm, right_code}
-use Rattle.star_core.specs.declared.files.File.{File}
-use Rattle.star_core.specs.declared.trees.StmtKind as st
+use Rattle.star_trees.specs.declared.files.File.{File}
+use Rattle.star_trees.specs.declared.trees.StmtKind as st
 use Rattle.star_grammar.specs.declared.bare_statements.BareFile.{BareFile}
 use Rattle.star_grammar.specs.declared.bare_statements.BareStmt.{BareStmt}
 use Rattle.star_grammar.specs.Orders.{all_of}

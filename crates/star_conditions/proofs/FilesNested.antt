@@ -9,7 +9,7 @@ use Rattle.star_conditions.proofs.StatementNesting as statement
 use Rattle.star_conditions.proofs.StatementNesting.{StmtNested, body-nested}
 use Rattle.star_conditions.specs.Nesting.{NestedWithin, depth_of_code}
 use Rattle.star_conditions.specs.Places.{greatest}
-use Rattle.star_core.specs.declared.files.File.{File}
+use Rattle.star_trees.specs.declared.files.File.{File}
 use Rattle.star_grammar.specs.declared.bare_statements.BareFile.{BareFile}
 use Rattle.star_grammar.specs.declared.bare_statements.BareStmt.{BareStmt}
 use Rattle.star_grammar.specs.Symbols.{symbols_of}

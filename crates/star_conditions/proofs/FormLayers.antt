@@ -1,21 +1,21 @@
 -- The form of a tree of each construct, by the form of its parts.
 use Rattle.std.proofs.Common.{rules, ◌≡◌, ℕ, ℤ, true, false, ◌&&◌, List, map, Option, Some, None, option_map}
 use Rattle.star_conditions.specs.Orders.{all_stand, are_args, are_clauses, form_of_arg, form_of_clause, is_place, maybe_right, right_expr, right_pair, right_target, stands, stands_as}
-use Rattle.star_core.specs.declared.trees.Arg as arg
-use Rattle.star_core.specs.declared.trees.Arg.{Arg}
-use Rattle.star_core.specs.declared.trees.BinOp.{BinOp}
-use Rattle.star_core.specs.declared.trees.Clause as clause
-use Rattle.star_core.specs.declared.trees.Clause.{Clause}
-use Rattle.star_core.specs.declared.trees.Expr as e
-use Rattle.star_core.specs.declared.trees.Expr.{Expr, the_lemmas}
-use Rattle.star_core.specs.declared.trees.ExprPair.{ExprPair, roll-ExprPair}
-use Rattle.star_core.specs.declared.trees.Stmt.{Stmt, roll-Stmt}
-use Rattle.star_core.specs.declared.trees.StmtKind as st
-use Rattle.star_core.specs.declared.trees.StmtKind.{StmtKind}
-use Rattle.star_core.specs.declared.trees.Target as target
-use Rattle.star_core.specs.declared.trees.Target.{Target}
-use Rattle.star_core.specs.declared.trees.UnOp.{UnOp}
-use Rattle.star_core.specs.declared.trees.Var.{Var}
+use Rattle.star_trees.specs.declared.trees.Arg as arg
+use Rattle.star_trees.specs.declared.trees.Arg.{Arg}
+use Rattle.star_trees.specs.declared.trees.BinOp.{BinOp}
+use Rattle.star_trees.specs.declared.trees.Clause as clause
+use Rattle.star_trees.specs.declared.trees.Clause.{Clause}
+use Rattle.star_trees.specs.declared.trees.Expr as e
+use Rattle.star_trees.specs.declared.trees.Expr.{Expr, the_lemmas}
+use Rattle.star_trees.specs.declared.trees.ExprPair.{ExprPair, roll-ExprPair}
+use Rattle.star_trees.specs.declared.trees.Stmt.{Stmt, roll-Stmt}
+use Rattle.star_trees.specs.declared.trees.StmtKind as st
+use Rattle.star_trees.specs.declared.trees.StmtKind.{StmtKind}
+use Rattle.star_trees.specs.declared.trees.Target as target
+use Rattle.star_trees.specs.declared.trees.Target.{Target}
+use Rattle.star_trees.specs.declared.trees.UnOp.{UnOp}
+use Rattle.star_trees.specs.declared.trees.Var.{Var}
 use Rattle.star_grammar.specs.declared.bare_statements.Inside.{Inside}
 use Rattle.star_grammar.specs.Orders.{all_of, some_and_all}
 use Rattle.star_grammar.specs.Statements.{in_branch, in_loop}

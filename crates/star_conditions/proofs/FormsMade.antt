@@ -6,7 +6,7 @@ use Rattle.std.specs.List.{AllZip}
 use Rattle.star_conditions.proofs.Conditions.{ForFirst}
 use Rattle.star_conditions.specs.Orders as form
 use Rattle.star_conditions.specs.Orders.{ArgForm, ClauseForm, given, right_param}
-use Rattle.star_core.specs.declared.files.Param.{Param}
+use Rattle.star_trees.specs.declared.files.Param.{Param}
 use Rattle.star_grammar.specs.declared.bare_expressions.BareArg.{BareArg, out-BareArg}
 use Rattle.star_grammar.specs.declared.bare_expressions.BareArg.TheOpen.{BareClause-F}
 use Rattle.star_grammar.specs.declared.bare_expressions.BareClause.{BareClause, out-BareClause}

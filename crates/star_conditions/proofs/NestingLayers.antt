@@ -2,21 +2,21 @@
 use Rattle.std.proofs.Common.{rules, ◌≡◌, ℕ, ◌+◌, ℤ, max, List, map, Option, option_map}
 use Rattle.star_conditions.specs.Nesting.{depth_of_arg, depth_of_clause, depth_of_expr, depth_of_kind, depth_of_pair, depth_of_stmt, depth_of_target}
 use Rattle.star_conditions.specs.Places.{greatest, number_or_zero}
-use Rattle.star_core.specs.declared.trees.Arg as arg
-use Rattle.star_core.specs.declared.trees.Arg.{Arg}
-use Rattle.star_core.specs.declared.trees.BinOp.{BinOp}
-use Rattle.star_core.specs.declared.trees.Clause as clause
-use Rattle.star_core.specs.declared.trees.Clause.{Clause}
-use Rattle.star_core.specs.declared.trees.Expr as e
-use Rattle.star_core.specs.declared.trees.Expr.{Expr, the_lemmas}
-use Rattle.star_core.specs.declared.trees.ExprPair.{ExprPair, roll-ExprPair}
-use Rattle.star_core.specs.declared.trees.Stmt.{Stmt, roll-Stmt}
-use Rattle.star_core.specs.declared.trees.StmtKind as st
-use Rattle.star_core.specs.declared.trees.StmtKind.{StmtKind}
-use Rattle.star_core.specs.declared.trees.Target as target
-use Rattle.star_core.specs.declared.trees.Target.{Target}
-use Rattle.star_core.specs.declared.trees.UnOp.{UnOp}
-use Rattle.star_core.specs.declared.trees.Var.{Var}
+use Rattle.star_trees.specs.declared.trees.Arg as arg
+use Rattle.star_trees.specs.declared.trees.Arg.{Arg}
+use Rattle.star_trees.specs.declared.trees.BinOp.{BinOp}
+use Rattle.star_trees.specs.declared.trees.Clause as clause
+use Rattle.star_trees.specs.declared.trees.Clause.{Clause}
+use Rattle.star_trees.specs.declared.trees.Expr as e
+use Rattle.star_trees.specs.declared.trees.Expr.{Expr, the_lemmas}
+use Rattle.star_trees.specs.declared.trees.ExprPair.{ExprPair, roll-ExprPair}
+use Rattle.star_trees.specs.declared.trees.Stmt.{Stmt, roll-Stmt}
+use Rattle.star_trees.specs.declared.trees.StmtKind as st
+use Rattle.star_trees.specs.declared.trees.StmtKind.{StmtKind}
+use Rattle.star_trees.specs.declared.trees.Target as target
+use Rattle.star_trees.specs.declared.trees.Target.{Target}
+use Rattle.star_trees.specs.declared.trees.UnOp.{UnOp}
+use Rattle.star_trees.specs.declared.trees.Var.{Var}
 
 pub depth_of_expr-Name : (variable : Var) → depth_of_expr (e.Name variable) ≡ 1
 unfolding depth_of_arg depth_of_clause depth_of_expr depth_of_pair depth_of_target

@@ -1,21 +1,21 @@
 -- The places in a tree of each construct, by those in its parts.
 use Rattle.std.proofs.Common.{rules, ◌≡◌, ℕ, ◌+◌, ℤ, max, List, map, Option, option_map}
 use Rattle.star_conditions.specs.Places.{greatest, number_or_zero, functions_of_arg, functions_of_clause, functions_of_expr, functions_of_kind, functions_of_pair, functions_of_stmt, functions_of_target, loads_of_kind, loads_of_stmt}
-use Rattle.star_core.specs.declared.trees.Arg as arg
-use Rattle.star_core.specs.declared.trees.Arg.{Arg}
-use Rattle.star_core.specs.declared.trees.BinOp.{BinOp}
-use Rattle.star_core.specs.declared.trees.Clause as clause
-use Rattle.star_core.specs.declared.trees.Clause.{Clause}
-use Rattle.star_core.specs.declared.trees.Expr as e
-use Rattle.star_core.specs.declared.trees.Expr.{Expr, the_lemmas}
-use Rattle.star_core.specs.declared.trees.ExprPair.{ExprPair, roll-ExprPair}
-use Rattle.star_core.specs.declared.trees.Stmt.{Stmt, roll-Stmt}
-use Rattle.star_core.specs.declared.trees.StmtKind as st
-use Rattle.star_core.specs.declared.trees.StmtKind.{StmtKind}
-use Rattle.star_core.specs.declared.trees.Target as target
-use Rattle.star_core.specs.declared.trees.Target.{Target}
-use Rattle.star_core.specs.declared.trees.UnOp.{UnOp}
-use Rattle.star_core.specs.declared.trees.Var.{Var}
+use Rattle.star_trees.specs.declared.trees.Arg as arg
+use Rattle.star_trees.specs.declared.trees.Arg.{Arg}
+use Rattle.star_trees.specs.declared.trees.BinOp.{BinOp}
+use Rattle.star_trees.specs.declared.trees.Clause as clause
+use Rattle.star_trees.specs.declared.trees.Clause.{Clause}
+use Rattle.star_trees.specs.declared.trees.Expr as e
+use Rattle.star_trees.specs.declared.trees.Expr.{Expr, the_lemmas}
+use Rattle.star_trees.specs.declared.trees.ExprPair.{ExprPair, roll-ExprPair}
+use Rattle.star_trees.specs.declared.trees.Stmt.{Stmt, roll-Stmt}
+use Rattle.star_trees.specs.declared.trees.StmtKind as st
+use Rattle.star_trees.specs.declared.trees.StmtKind.{StmtKind}
+use Rattle.star_trees.specs.declared.trees.Target as target
+use Rattle.star_trees.specs.declared.trees.Target.{Target}
+use Rattle.star_trees.specs.declared.trees.UnOp.{UnOp}
+use Rattle.star_trees.specs.declared.trees.Var.{Var}
 
 pub functions_of_expr-Name : (variable : Var) → functions_of_expr (e.Name variable) ≡ 0
 unfolding functions_of_arg functions_of_clause functions_of_expr functions_of_pair functions_of_target

@@ -2,8 +2,8 @@
 use Rattle.std.proofs.Common.{ℕ, zero, suc, ◌+◌, ◌≤◌, List, [], ◌∷◌, length, map, set, ◌++◌, arith, le_refl, le_trans, length-append, length-set}
 use Rattle.star_conditions.specs.Places.{greatest, functions_of_code, loads_of_code}
 use Rattle.star_conditions.proofs.Trees.{Lists}
-use Rattle.star_core.specs.declared.files.FnCode.{FnCode}
-use Rattle.star_core.specs.declared.loads.Load.{Load}
+use Rattle.star_trees.specs.declared.files.FnCode.{FnCode}
+use Rattle.star_trees.specs.declared.loads.Load.{Load}
 use Rattle.star_scopes.specs.Making.{Making, ◌>>=◌, pure, each, begin, begun, finish, load}
 
 -- what holds after a value is made: the lists don't shrink, the value speaks of what is there, and so do the functions' codes where they did before

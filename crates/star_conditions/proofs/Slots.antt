@@ -7,7 +7,7 @@ use Rattle.std.proofs.lemmas.List.Quantifiers.{position-Some}
 use Rattle.std.proofs.lemmas.Slice.Eq.{bytes_eq-Decides}
 use Rattle.std.specs.Str.{bytes_eq}
 use Rattle.star_conditions.specs.Counted.{StandsThere, is_place, is_variable, variable_counted}
-use Rattle.star_core.specs.declared.trees.Var.{Var}
+use Rattle.star_trees.specs.declared.trees.Var.{Var}
 use Rattle.star_names.specs.Variables.{Names, found, found_here, place}
 
 -- a slot of some names has this name

@@ -3,8 +3,8 @@ use Rattle.std.proofs.Common.{◌≡◌, ℕ, zero, suc, ◌≤◌, max, true, L
 use Rattle.std.proofs.lemmas.List.Elements.{All-head, All-nil}
 use Rattle.star_conditions.proofs.Conditions.{Conditions, ExpressionsKeep, ForFirst}
 use Rattle.star_conditions.proofs.SpelledParts.{Held, Reads, EachOf, deepened, each-deeper, Repeated-held, One-held, Adds-held, Series-held, Listed-held}
-use Rattle.star_core.specs.declared.trees.BinOp.{BinOp}
-use Rattle.star_core.specs.declared.trees.UnOp.{UnOp}
+use Rattle.star_trees.specs.declared.trees.BinOp.{BinOp}
+use Rattle.star_trees.specs.declared.trees.UnOp.{UnOp}
 use Rattle.star_grammar.specs.declared.bare_expressions.BareClause.{BareClause}
 use Rattle.star_grammar.specs.declared.bare_expressions.BareExpr as e
 use Rattle.star_grammar.specs.declared.bare_expressions.BareExpr.{BareExpr}

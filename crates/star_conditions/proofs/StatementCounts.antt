@@ -10,11 +10,11 @@ use Rattle.star_conditions.proofs.Trees.{With, bare}
 use Rattle.star_conditions.proofs.VariablesFound.{same_scopes-self, variable-counted, variable-named}
 use Rattle.star_conditions.specs.Counted as counted
 use Rattle.star_conditions.specs.Counted.{Tally, all_counted, bound_of, code_counted, expr_in, kind_in, no_load, param_tally, same_scopes, stmt_in, variable_counted}
-use Rattle.star_core.specs.declared.loads.Load.{Load}
-use Rattle.star_core.specs.declared.trees.BinOp.{BinOp}
-use Rattle.star_core.specs.declared.trees.Stmt.{Stmt, roll-Stmt}
-use Rattle.star_core.specs.declared.trees.StmtKind.{StmtKind}
-use Rattle.star_core.specs.declared.trees.StmtKind as st
+use Rattle.star_trees.specs.declared.loads.Load.{Load}
+use Rattle.star_trees.specs.declared.trees.BinOp.{BinOp}
+use Rattle.star_trees.specs.declared.trees.Stmt.{Stmt, roll-Stmt}
+use Rattle.star_trees.specs.declared.trees.StmtKind.{StmtKind}
+use Rattle.star_trees.specs.declared.trees.StmtKind as st
 use Rattle.star_grammar.specs.declared.bare_expressions.BareExpr.{BareExpr}
 use Rattle.star_grammar.specs.declared.bare_expressions.BareName.{BareName}
 use Rattle.star_grammar.specs.declared.bare_expressions.BareParam.{BareParam}

@@ -8,10 +8,10 @@ use Rattle.star_conditions.proofs.FormsMade.{ParamsRight}
 use Rattle.star_conditions.proofs.Made.{pure-makes, bind-makes, makes-also, makes-both, each-makes, function-makes, load-makes}
 use Rattle.star_conditions.proofs.StatementNesting.{stmt_meaning-roll}
 use Rattle.star_conditions.specs.Orders.{all_stand, stands, stands_as}
-use Rattle.star_core.specs.declared.files.Param.{Param}
-use Rattle.star_core.specs.declared.trees.BinOp.{BinOp}
-use Rattle.star_core.specs.declared.trees.Stmt.{Stmt, roll-Stmt}
-use Rattle.star_core.specs.declared.trees.StmtKind as st
+use Rattle.star_trees.specs.declared.files.Param.{Param}
+use Rattle.star_trees.specs.declared.trees.BinOp.{BinOp}
+use Rattle.star_trees.specs.declared.trees.Stmt.{Stmt, roll-Stmt}
+use Rattle.star_trees.specs.declared.trees.StmtKind as st
 use Rattle.star_grammar.specs.declared.bare_expressions.BareExpr.{BareExpr}
 use Rattle.star_grammar.specs.declared.bare_expressions.BareName.{BareName}
 use Rattle.star_grammar.specs.declared.bare_expressions.BareParam.{BareParam}

@@ -5,10 +5,10 @@ use Rattle.star_conditions.proofs.ExpressionPlaces.{of_each}
 use Rattle.star_conditions.proofs.Made.{bind-makes, function-makes, load-makes}
 use Rattle.star_conditions.proofs.NestingLayers as is
 use Rattle.star_conditions.specs.Nesting.{depth_of_kind, depth_of_param, depth_of_stmt}
-use Rattle.star_core.specs.declared.trees.BinOp.{BinOp}
-use Rattle.star_core.specs.declared.files.Param.{Param}
-use Rattle.star_core.specs.declared.trees.Stmt.{Stmt, roll-Stmt}
-use Rattle.star_core.specs.declared.trees.StmtKind as st
+use Rattle.star_trees.specs.declared.trees.BinOp.{BinOp}
+use Rattle.star_trees.specs.declared.files.Param.{Param}
+use Rattle.star_trees.specs.declared.trees.Stmt.{Stmt, roll-Stmt}
+use Rattle.star_trees.specs.declared.trees.StmtKind as st
 use Rattle.star_grammar.specs.declared.bare_expressions.BareExpr.{BareExpr}
 use Rattle.star_grammar.specs.declared.bare_expressions.BareName.{BareName}
 use Rattle.star_grammar.specs.declared.bare_expressions.BareParam.{BareParam}

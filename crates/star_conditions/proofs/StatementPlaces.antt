@@ -6,10 +6,10 @@ use Rattle.star_conditions.proofs.Trees.{With, bare}
 use Rattle.star_conditions.proofs.PlacesMade.{Good, pure-good, bind-good, then, each-good, each-sure, begin-good, finish-good, load-good, none}
 use Rattle.star_conditions.proofs.PlaceLayers as is
 use Rattle.star_conditions.specs.Places.{functions_of_kind, functions_of_param, functions_of_stmt, loads_of_kind, loads_of_stmt}
-use Rattle.star_core.specs.declared.trees.BinOp.{BinOp}
-use Rattle.star_core.specs.declared.trees.Stmt.{roll-Stmt}
-use Rattle.star_core.specs.declared.trees.StmtKind.{StmtKind}
-use Rattle.star_core.specs.declared.trees.StmtKind as st
+use Rattle.star_trees.specs.declared.trees.BinOp.{BinOp}
+use Rattle.star_trees.specs.declared.trees.Stmt.{roll-Stmt}
+use Rattle.star_trees.specs.declared.trees.StmtKind.{StmtKind}
+use Rattle.star_trees.specs.declared.trees.StmtKind as st
 use Rattle.star_grammar.specs.declared.bare_expressions.BareExpr.{BareExpr}
 use Rattle.star_grammar.specs.declared.bare_expressions.BareName.{BareName}
 use Rattle.star_grammar.specs.declared.bare_expressions.BareParam.{BareParam}

@@ -4,7 +4,7 @@ use Rattle.star_conditions.proofs.Files.{resolved-places, resolved-variables}
 use Rattle.star_conditions.proofs.FilesFormed.{resolved-formed}
 use Rattle.star_conditions.proofs.FilesNested.{resolved-nested}
 use Rattle.star_conditions.specs.WellFormed.{WellFormed}
-use Rattle.star_core.specs.declared.files.File.{File}
+use Rattle.star_trees.specs.declared.files.File.{File}
 use Rattle.star_grammar.specs.Texts.{Spelled}
 use Rattle.star_grammar.specs.declared.bare_statements.BareFile.{BareFile}
 use Rattle.star_scopes.specs.Files.{resolved}

@@ -1,24 +1,24 @@
 -- The variables of a file's trees, counted again from the trees alone: the Starlark specification, "Name binding and variables".
 use Rattle.std.specs.Prelude.{◌≡◌, ℕ, ◌<◌, Bool, true, false, ◌&&◌, eqb, bytes_eq, List, [], ◌∷◌, ◌++◌, length, get_or, map, Option, Some, None, option_map, EachIndex}
 use Rattle.std.specs.Cmp.Lexicographic.{pointwise}
-use Rattle.star_core.specs.declared.files.File.{File}
-use Rattle.star_core.specs.declared.files.FnBody.{FnBody}
-use Rattle.star_core.specs.declared.files.FnBody.TheVariants as body
-use Rattle.star_core.specs.declared.files.FnCode.{FnCode}
-use Rattle.star_core.specs.declared.files.Param.{Param}
-use Rattle.star_core.specs.declared.files.Param.TheVariants as param
-use Rattle.star_core.specs.declared.loads.Load.{Load}
-use Rattle.star_core.specs.declared.loads.LoadName.{LoadName}
-use Rattle.star_core.specs.declared.trees.Arg.{Arg, fold-Arg}
-use Rattle.star_core.specs.declared.trees.Arg.TheOpen.{Arg-F, Clause-F, Expr-F, ExprPair-F, Target-F}
-use Rattle.star_core.specs.declared.trees.Clause.{Clause, fold-Clause}
-use Rattle.star_core.specs.declared.trees.Expr.{Expr, fold-Expr}
-use Rattle.star_core.specs.declared.trees.ExprPair.{ExprPair, fold-ExprPair}
-use Rattle.star_core.specs.declared.trees.Stmt.{Stmt, fold-Stmt}
-use Rattle.star_core.specs.declared.trees.StmtKind.{StmtKind, fold-StmtKind}
-use Rattle.star_core.specs.declared.trees.StmtKind.TheOpen.{StmtKind-F}
-use Rattle.star_core.specs.declared.trees.Target.{Target, fold-Target}
-use Rattle.star_core.specs.declared.trees.Var.{Var}
+use Rattle.star_trees.specs.declared.files.File.{File}
+use Rattle.star_trees.specs.declared.files.FnBody.{FnBody}
+use Rattle.star_trees.specs.declared.files.FnBody.TheVariants as body
+use Rattle.star_trees.specs.declared.files.FnCode.{FnCode}
+use Rattle.star_trees.specs.declared.files.Param.{Param}
+use Rattle.star_trees.specs.declared.files.Param.TheVariants as param
+use Rattle.star_trees.specs.declared.loads.Load.{Load}
+use Rattle.star_trees.specs.declared.loads.LoadName.{LoadName}
+use Rattle.star_trees.specs.declared.trees.Arg.{Arg, fold-Arg}
+use Rattle.star_trees.specs.declared.trees.Arg.TheOpen.{Arg-F, Clause-F, Expr-F, ExprPair-F, Target-F}
+use Rattle.star_trees.specs.declared.trees.Clause.{Clause, fold-Clause}
+use Rattle.star_trees.specs.declared.trees.Expr.{Expr, fold-Expr}
+use Rattle.star_trees.specs.declared.trees.ExprPair.{ExprPair, fold-ExprPair}
+use Rattle.star_trees.specs.declared.trees.Stmt.{Stmt, fold-Stmt}
+use Rattle.star_trees.specs.declared.trees.StmtKind.{StmtKind, fold-StmtKind}
+use Rattle.star_trees.specs.declared.trees.StmtKind.TheOpen.{StmtKind-F}
+use Rattle.star_trees.specs.declared.trees.Target.{Target, fold-Target}
+use Rattle.star_trees.specs.declared.trees.Var.{Var}
 use Rattle.star_names.specs.Variables.{Names, found, place}
 use Rattle.star_scopes.specs.Bindings.{Binding, no_binding, each_binds, name_binds}
 use Rattle.star_scopes.specs.Making.{begun}

@@ -1,20 +1,20 @@
 -- What the grammar asks of trees besides, asked of resolved files: the order of arguments and parameters, names that differ, and what may stand only in a function, in a loop or at the top. The Starlark specification, "Function and method calls", "Function definitions", "Assignments", "Statements".
 use Rattle.std.specs.Prelude.{◌≡◌, ℕ, Bool, true, false, ◌&&◌, ◌==◌, nat_le, if◌then◌else◌, List, [], ◌∷◌, map, Option, Some, None, option_map}
-use Rattle.star_core.specs.declared.files.File.{File}
-use Rattle.star_core.specs.declared.files.FnBody.{FnBody}
-use Rattle.star_core.specs.declared.files.FnBody.TheVariants as body
-use Rattle.star_core.specs.declared.files.FnCode.{FnCode}
-use Rattle.star_core.specs.declared.files.Param.{Param}
-use Rattle.star_core.specs.declared.files.Param.TheVariants as param
-use Rattle.star_core.specs.declared.trees.Arg.{Arg, fold-Arg}
-use Rattle.star_core.specs.declared.trees.Arg.TheOpen.{Arg-F, Clause-F, Expr-F, ExprPair-F, Target-F}
-use Rattle.star_core.specs.declared.trees.Clause.{Clause, fold-Clause}
-use Rattle.star_core.specs.declared.trees.Expr.{Expr, fold-Expr, out-Expr}
-use Rattle.star_core.specs.declared.trees.ExprPair.{ExprPair, fold-ExprPair}
-use Rattle.star_core.specs.declared.trees.Stmt.{Stmt, fold-Stmt}
-use Rattle.star_core.specs.declared.trees.StmtKind.{StmtKind, fold-StmtKind}
-use Rattle.star_core.specs.declared.trees.StmtKind.TheOpen.{StmtKind-F}
-use Rattle.star_core.specs.declared.trees.Target.{Target, fold-Target}
+use Rattle.star_trees.specs.declared.files.File.{File}
+use Rattle.star_trees.specs.declared.files.FnBody.{FnBody}
+use Rattle.star_trees.specs.declared.files.FnBody.TheVariants as body
+use Rattle.star_trees.specs.declared.files.FnCode.{FnCode}
+use Rattle.star_trees.specs.declared.files.Param.{Param}
+use Rattle.star_trees.specs.declared.files.Param.TheVariants as param
+use Rattle.star_trees.specs.declared.trees.Arg.{Arg, fold-Arg}
+use Rattle.star_trees.specs.declared.trees.Arg.TheOpen.{Arg-F, Clause-F, Expr-F, ExprPair-F, Target-F}
+use Rattle.star_trees.specs.declared.trees.Clause.{Clause, fold-Clause}
+use Rattle.star_trees.specs.declared.trees.Expr.{Expr, fold-Expr, out-Expr}
+use Rattle.star_trees.specs.declared.trees.ExprPair.{ExprPair, fold-ExprPair}
+use Rattle.star_trees.specs.declared.trees.Stmt.{Stmt, fold-Stmt}
+use Rattle.star_trees.specs.declared.trees.StmtKind.{StmtKind, fold-StmtKind}
+use Rattle.star_trees.specs.declared.trees.StmtKind.TheOpen.{StmtKind-F}
+use Rattle.star_trees.specs.declared.trees.Target.{Target, fold-Target}
 use Rattle.star_grammar.specs.declared.bare_statements.Inside.{Inside}
 use Rattle.star_grammar.specs.Orders.{all_different, all_of, may_follow, some_and_all, with_name}
 use Rattle.star_grammar.specs.Statements.{at_top, in_branch, in_function, in_loop}

@@ -1,20 +1,20 @@
 -- The places among a file's functions and loads that stand in its trees.
 use Rattle.std.specs.Prelude.{ℕ, ◌+◌, ◌≤◌, max, List, [], ◌∷◌, length, map, Option, Some, None, option_map}
-use Rattle.star_core.specs.declared.files.File.{File}
-use Rattle.star_core.specs.declared.files.FnBody.{FnBody}
-use Rattle.star_core.specs.declared.files.FnBody.TheVariants as body
-use Rattle.star_core.specs.declared.files.FnCode.{FnCode}
-use Rattle.star_core.specs.declared.files.Param.{Param}
-use Rattle.star_core.specs.declared.files.Param.TheVariants as param
-use Rattle.star_core.specs.declared.trees.Arg.{Arg, fold-Arg}
-use Rattle.star_core.specs.declared.trees.Arg.TheOpen.{Arg-F, Clause-F, Expr-F, ExprPair-F, Target-F}
-use Rattle.star_core.specs.declared.trees.Clause.{Clause, fold-Clause}
-use Rattle.star_core.specs.declared.trees.Expr.{Expr, fold-Expr}
-use Rattle.star_core.specs.declared.trees.ExprPair.{ExprPair, fold-ExprPair}
-use Rattle.star_core.specs.declared.trees.Stmt.{Stmt, fold-Stmt}
-use Rattle.star_core.specs.declared.trees.StmtKind.{StmtKind, fold-StmtKind}
-use Rattle.star_core.specs.declared.trees.StmtKind.TheOpen.{StmtKind-F}
-use Rattle.star_core.specs.declared.trees.Target.{Target, fold-Target}
+use Rattle.star_trees.specs.declared.files.File.{File}
+use Rattle.star_trees.specs.declared.files.FnBody.{FnBody}
+use Rattle.star_trees.specs.declared.files.FnBody.TheVariants as body
+use Rattle.star_trees.specs.declared.files.FnCode.{FnCode}
+use Rattle.star_trees.specs.declared.files.Param.{Param}
+use Rattle.star_trees.specs.declared.files.Param.TheVariants as param
+use Rattle.star_trees.specs.declared.trees.Arg.{Arg, fold-Arg}
+use Rattle.star_trees.specs.declared.trees.Arg.TheOpen.{Arg-F, Clause-F, Expr-F, ExprPair-F, Target-F}
+use Rattle.star_trees.specs.declared.trees.Clause.{Clause, fold-Clause}
+use Rattle.star_trees.specs.declared.trees.Expr.{Expr, fold-Expr}
+use Rattle.star_trees.specs.declared.trees.ExprPair.{ExprPair, fold-ExprPair}
+use Rattle.star_trees.specs.declared.trees.Stmt.{Stmt, fold-Stmt}
+use Rattle.star_trees.specs.declared.trees.StmtKind.{StmtKind, fold-StmtKind}
+use Rattle.star_trees.specs.declared.trees.StmtKind.TheOpen.{StmtKind-F}
+use Rattle.star_trees.specs.declared.trees.Target.{Target, fold-Target}
 
 -- the greatest of some numbers, 0 where there is none
 abbrev pub greatest : List ℕ → ℕ

@@ -1,5 +1,5 @@
 //! Values: what isn't small lies in a cell of the heap and is named by its place there.
-use bz_base::Txt;
+use bz_text::Txt;
 
 #[derive(Clone, Copy, Debug, PartialEq, Eq)]
 pub enum Val {
@@ -13,5 +13,5 @@ pub enum Val {
 #[derive(Debug, Drop)]
 pub struct NamedVal {
     pub name: Txt,
-    pub value: Val,
+    pub val: Val,
 }

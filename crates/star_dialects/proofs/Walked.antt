@@ -1,8 +1,8 @@
 -- A walk over places, in parts.
 use Rattle.std.proofs.Common.{◌≡◌, ℕ, suc, ◌+◌, ◌<◌, List, [], ◌∷◌, ◌++◌, Result, Ok, Err, length, get_or, drop, map, refl, ap, sym, ◌∙◌, add-one, drop-cons}
-use Rattle.bz_base.specs.Answers.{Gives}
-use Rattle.bz_base.specs.declared.memory.Miss.{Miss}
-use Rattle.bz_base.specs.declared.memory.Miss.TheVariants.{OutOfMemory, Because}
+use Rattle.bz_text.specs.Answers.{Gives}
+use Rattle.bz_text.specs.declared.memory.Miss.{Miss}
+use Rattle.bz_text.specs.declared.memory.Miss.TheVariants.{OutOfMemory, Because}
 use Rattle.star_names.specs.Variables.{Names}
 use Rattle.star_dialects.specs.ExtensionFiles.{Place, all_places, followed, taken, walked}
 use Rattle.star_dialects.specs.declared.forms.Refused.{Refused}

@@ -1,11 +1,11 @@
 //! Extensions' files: no `if`, no `for` and no second binding of a name at top level. The names bound so far go from place to place, in the order of the text; a place that is refused ends the walk.
 ghost use Rattle.std.specs.Prelude.{◌≡◌, IfOk, Err, [], ◌∷◌, map};
-ghost use Rattle.bz_base.specs.Answers.{Gives};
+ghost use Rattle.bz_text.specs.Answers.{Gives};
 ghost use Rattle.star_dialects.specs.ExtensionFiles as spec;
 ghost use Rattle.star_dialects.specs.Forms.{form_on};
 
 use crate::forms::{Form, Refused};
-use bz_base::{May, Mem, Miss, OutOfMemory, Txt};
+use bz_text::{May, Mem, Miss, OutOfMemory, Txt};
 use star_grammar::{BareExpr, BareLoadName, BareStmt, BareStmtKind};
 use star_names::Names;
 use std::alloc::Global;

@@ -223,7 +223,7 @@ fn is_display(expression: &BareExpr) -> bool
 #[cfg(test)]
 mod tests {
     use super::*;
-    use bz_base::{Mem, Seq, Txt};
+    use bz_text::{Mem, Seq, Txt};
     use sqlite_items::Items;
     use star_grammar::BareName;
     use std::alloc::Global;

@@ -1,4 +1,3 @@
 pub mod ItemTests
 pub mod Loosest
 pub mod NameLists
-pub mod Turns

@@ -2,7 +2,7 @@
 use Rattle.std.specs.Prelude.{ℕ, Result}
 use Rattle.std.specs.declared.alloc.Global.{Global}
 use denote.Ref.{MutBor}
-use Rattle.bz_base.specs.declared.memory.Miss.{Miss}
+use Rattle.bz_text.specs.declared.memory.Miss.{Miss}
 use Rattle.star_grammar.specs.declared.bare_expressions.BareExpr.{BareExpr}
 use Rattle.star_grammar.specs.declared.bare_expressions.Level.{Level}
 use Rattle.star_grammar.specs.ExpressionReading.{reads}

@@ -1,7 +1,7 @@
 -- What a call read, beside a reader of the grammar's definition.
 use Rattle.std.specs.Prelude.{◌≡◌, List, Option, Some, None, Result, Ok, Err, ⊤}
-use Rattle.bz_base.specs.declared.memory.Miss.{Miss}
-use Rattle.bz_base.specs.declared.memory.Miss.TheVariants.{OutOfMemory, Because}
+use Rattle.bz_text.specs.declared.memory.Miss.{Miss}
+use Rattle.bz_text.specs.declared.memory.Miss.TheVariants.{OutOfMemory, Because}
 use Rattle.star_grammar.specs.declared.symbols.Symbol.{Symbol}
 use Rattle.star_expressions.specs.declared.cursor.NoTree.{NoTree}
 

@@ -6,7 +6,7 @@ ghost use Rattle.star_grammar.specs.declared.bare_expressions.BareArg.{out-BareA
 ghost use Rattle.star_grammar.specs.declared.bare_expressions.BareParam.{out-BareParam};
 ghost use Rattle.star_expressions.specs.NameSets.{Adds};
 
-use bz_base::{Mem, Txt};
+use bz_text::{Mem, Txt};
 use sqlite_items::Items;
 use star_grammar::{BareArg, BareParam};
 use std::alloc::Global;

@@ -9,7 +9,7 @@ ghost use Rattle.star_expressions.specs.Reads.{Reads};
 
 use crate::cursor::{Cursor, NoTree};
 use crate::grammar::{Grammar, only};
-use bz_base::May;
+use bz_text::May;
 use sqlite_items::Items;
 use star_grammar::{BareClause, BareExpr, Level, Sign};
 use std::alloc::Global;

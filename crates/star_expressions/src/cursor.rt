@@ -7,8 +7,8 @@ ghost use Rattle.star_grammar.specs.Operators as operators;
 ghost use Rattle.star_expressions.specs.Reads.{Finds, Reads};
 
 use crate::operators;
-use bz_base::{May, Miss, Txt};
-use star_core::{BinOp, UnOp};
+use bz_text::{May, Miss, Txt};
+use star_trees::{BinOp, UnOp};
 use star_grammar::{Sign, Symbol, SymbolKind};
 use std::alloc::Global;
 

@@ -7,7 +7,7 @@ ghost use Rattle.star_expressions.specs.Reads.{Reads};
 
 use crate::cursor::{Cursor, NoTree};
 use crate::grammar::Grammar;
-use bz_base::{May, Miss};
+use bz_text::{May, Miss};
 use sqlite_items::Items;
 use star_grammar::{BareExpr, BareParam, Level};
 use std::alloc::Global;

@@ -6,7 +6,7 @@ ghost use Rattle.star_expressions.specs.Nests.{Nests};
 ghost use Rattle.star_expressions.specs.Reads.{Finds, Reads};
 
 use crate::cursor::{Cursor, NoTree};
-use bz_base::{May, Mem, Miss};
+use bz_text::{May, Mem, Miss};
 use sqlite_items::Items;
 use star_grammar::{BareExpr, Level};
 use std::alloc::Global;

@@ -12,9 +12,9 @@ ghost use Rattle.star_expressions.specs.Reads.{Finds, Reads};
 use crate::arg_orders::are_params;
 use crate::cursor::{Cursor, NoTree};
 use crate::grammar::{Grammar, checked, deep};
-use bz_base::May;
+use bz_text::May;
 use sqlite_items::Boxed;
-use star_core::{BinOp, UnOp};
+use star_trees::{BinOp, UnOp};
 use star_grammar::{BareExpr, Level, Sign};
 use std::alloc::Global;
 

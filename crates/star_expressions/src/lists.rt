@@ -12,7 +12,7 @@ ghost use Rattle.star_expressions.specs.Reads.{Finds, Reads};
 use crate::cursor::{Cursor, NoTree};
 use crate::grammar::{Grammar, checked, deep, only};
 use crate::targets::is_target;
-use bz_base::May;
+use bz_text::May;
 use sqlite_items::{Boxed, Items};
 use star_grammar::{BareExpr, Level, Sign};
 use std::alloc::Global;

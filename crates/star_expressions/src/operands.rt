@@ -10,7 +10,7 @@ ghost use Rattle.star_expressions.specs.Reads.{Finds, Reads};
 use crate::cursor::{Cursor, NoTree};
 use crate::grammar::{Grammar, deep, only};
 use crate::lists::bracketed;
-use bz_base::{May, Miss};
+use bz_text::{May, Miss};
 use sqlite_items::{Boxed, Items};
 use star_grammar::{BareExpr, BareName, BarePair, Level, Sign, SymbolKind};
 use std::alloc::Global;

@@ -2,7 +2,7 @@
 ghost use Rattle.std.specs.Prelude.{◌≡◌};
 ghost use Rattle.star_grammar.specs.Operators as spec;
 
-use star_core::{BinOp, UnOp};
+use star_trees::{BinOp, UnOp};
 use star_grammar::Sign;
 
 /// A binary operator and its level, from the tightest.

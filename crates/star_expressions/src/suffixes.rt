@@ -10,7 +10,7 @@ ghost use Rattle.star_expressions.specs.Reads.{Reads};
 use crate::arg_orders::are_args;
 use crate::cursor::{Cursor, NoTree};
 use crate::grammar::{Grammar, checked, deep};
-use bz_base::May;
+use bz_text::May;
 use sqlite_items::Boxed;
 use star_grammar::{BareExpr, Level, Sign};
 use std::alloc::Global;

@@ -1,6 +1,6 @@
 -- What symbols spell is what the reader of an expression gives, where the symbols behind it don't go on.
 use Rattle.std.proofs.Common.{◌≡◌, ℕ, zero, suc, ◌<◌, ◌≤◌, max, Bool, true, false, ◌&&◌, ◌||◌, cond, List, ◌∷◌, Option, Some, None, refl, arith, sym, subst, ap, ◌∙◌}
-use Rattle.star_core.specs.declared.trees.BinOp.{BinOp}
+use Rattle.star_trees.specs.declared.trees.BinOp.{BinOp}
 use Rattle.star_grammar.specs.declared.symbols.Sign.{Sign}
 use Rattle.star_grammar.specs.declared.symbols.Sign.TheVariants as s
 use Rattle.star_grammar.specs.declared.symbols.Symbol.{Symbol}

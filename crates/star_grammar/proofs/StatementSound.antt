@@ -2,7 +2,7 @@
 use Rattle.std.proofs.Common.{◌≡◌, ℕ, zero, suc, not, ◌||◌, cond, List, [], ◌∷◌, length, Option, Some, None, ap, subst}
 use Rattle.std.proofs.lemmas.Bool.{cond_both}
 use Rattle.std.proofs.lemmas.Option.{none-some}
-use Rattle.star_core.specs.declared.trees.BinOp.{BinOp}
+use Rattle.star_trees.specs.declared.trees.BinOp.{BinOp}
 use Rattle.star_grammar.specs.declared.symbols.Sign.{Sign}
 use Rattle.star_grammar.specs.declared.symbols.Sign.TheVariants as s
 use Rattle.star_grammar.specs.declared.symbols.Symbol.{Symbol}

@@ -1,8 +1,8 @@
 -- The grammar of expressions: the Starlark specification, "Expressions". Each constructor is a production; what nests is read by the rules of one nesting less.
 use Rattle.std.specs.Prelude.{◌≡◌, ℕ, zero, suc, ◌+◌, max, true, ℤ, List, [], ◌∷◌, ◌++◌, Option, Some, None}
-use Rattle.star_core.specs.declared.trees.BinOp.{BinOp}
-use Rattle.star_core.specs.declared.trees.BinOp.TheVariants as bin
-use Rattle.star_core.specs.declared.trees.UnOp.{UnOp}
+use Rattle.star_trees.specs.declared.trees.BinOp.{BinOp}
+use Rattle.star_trees.specs.declared.trees.BinOp.TheVariants as bin
+use Rattle.star_trees.specs.declared.trees.UnOp.{UnOp}
 use Rattle.star_grammar.specs.declared.symbols.Sign.{Sign}
 use Rattle.star_grammar.specs.declared.symbols.Sign.TheVariants as s
 use Rattle.star_grammar.specs.declared.symbols.Symbol.{Symbol}

@@ -1,9 +1,9 @@
 -- The operators of expressions and statements, as one table.
 use Rattle.std.specs.Prelude.{ℕ, ◌==◌, if◌then◌else◌, Option, Some, None}
-use Rattle.star_core.specs.declared.trees.BinOp.{BinOp}
-use Rattle.star_core.specs.declared.trees.BinOp.TheVariants as bin
-use Rattle.star_core.specs.declared.trees.UnOp.{UnOp}
-use Rattle.star_core.specs.declared.trees.UnOp.TheVariants as un
+use Rattle.star_trees.specs.declared.trees.BinOp.{BinOp}
+use Rattle.star_trees.specs.declared.trees.BinOp.TheVariants as bin
+use Rattle.star_trees.specs.declared.trees.UnOp.{UnOp}
+use Rattle.star_trees.specs.declared.trees.UnOp.TheVariants as un
 use Rattle.star_grammar.specs.declared.symbols.Sign.{Sign}
 use Rattle.star_grammar.specs.declared.symbols.Sign.TheVariants as s
 

@@ -1,6 +1,6 @@
 -- Statements and files, read: each reader for the rule of its name, with what nests as a parameter.
 use Rattle.std.specs.Prelude.{◌≡◌, ℕ, zero, suc, max, Bool, true, false, not, ◌||◌, if◌then◌else◌, List, [], ◌∷◌, length, Option, Some, None}
-use Rattle.star_core.specs.declared.trees.BinOp.{BinOp}
+use Rattle.star_trees.specs.declared.trees.BinOp.{BinOp}
 use Rattle.star_grammar.specs.declared.symbols.Sign.{Sign}
 use Rattle.star_grammar.specs.declared.symbols.Sign.TheVariants as s
 use Rattle.star_grammar.specs.declared.symbols.Symbol.{Symbol}

@@ -1,7 +1,7 @@
 -- The grammar of files and statements: the Starlark specification, "Statements". Each constructor is a production; what nests is read by the rules of one nesting less.
 use Rattle.std.specs.Prelude.{◌≡◌, ℕ, zero, suc, max, Bool, true, false, List, [], ◌∷◌, Option, Some, None}
-use Rattle.star_core.specs.declared.loads.LoadName.{LoadName}
-use Rattle.star_core.specs.declared.trees.BinOp.{BinOp}
+use Rattle.star_trees.specs.declared.loads.LoadName.{LoadName}
+use Rattle.star_trees.specs.declared.trees.BinOp.{BinOp}
 use Rattle.star_grammar.specs.declared.symbols.Sign.{Sign}
 use Rattle.star_grammar.specs.declared.symbols.Sign.TheVariants as s
 use Rattle.star_grammar.specs.declared.symbols.Symbol.{Symbol}

@@ -1,7 +1,7 @@
 //! Expressions as they are written, with names that aren't resolved yet. Round brackets stay in the tree, since a place may not stand in them. `Items` and `Boxed` stand for lists and boxes, so that trees are compared by what they hold.
-use bz_base::Txt;
+use bz_text::Txt;
 use sqlite_items::{Boxed, Items};
-use star_core::{BinOp, UnOp};
+use star_trees::{BinOp, UnOp};
 
 /// The levels of expressions at which a nested one may begin.
 #[derive(Clone, Copy, Debug, PartialEq, Eq)]

@@ -1,8 +1,8 @@
 //! Statements as they are written, with names that aren't resolved yet.
 use crate::bare_expressions::{BareExpr, BareName, BareParam};
-use bz_base::{Seq, Txt};
+use bz_text::{Seq, Txt};
 use sqlite_items::Items;
-use star_core::{BinOp, LoadName};
+use star_trees::{BinOp, LoadName};
 
 /// The tree of a file.
 #[derive(Drop)]

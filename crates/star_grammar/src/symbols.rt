@@ -1,5 +1,5 @@
 //! The symbols of the grammar: tokens seen by what they are.
-use bz_base::Txt;
+use bz_text::Txt;
 
 /// What its kind alone tells: a keyword, a mark, a sign of the layout, or a word that stands nowhere.
 #[derive(Clone, Copy, Debug, PartialEq, Eq)]

@@ -1,7 +1,7 @@
 -- The tokens of a text: its pieces, one after another, laid out.
 use Rattle.std.specs.Prelude.{◌≡◌, ℕ, List, [], take, drop, Some, Result, Ok, Err, ⊤}
-use Rattle.bz_base.specs.declared.memory.Miss.{Miss}
-use Rattle.bz_base.specs.declared.memory.Miss.TheVariants.{OutOfMemory, Because}
+use Rattle.bz_text.specs.declared.memory.Miss.{Miss}
+use Rattle.bz_text.specs.declared.memory.Miss.TheVariants.{OutOfMemory, Because}
 use Rattle.star_lex.specs.declared.token.Token.{Token}
 use Rattle.star_lex.specs.declared.token.LexFault.{LexFault}
 use Rattle.star_lex.specs.declared.pieces.Piece.{Piece}

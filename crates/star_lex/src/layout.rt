@@ -10,7 +10,7 @@ use crate::bytes::byte_at;
 use crate::levels::Levels;
 use crate::pieces::Piece;
 use crate::token::{NoPiece, Token, TokenKind};
-use bz_base::{May, Mem, Miss, OutOfMemory, Seq};
+use bz_text::{May, Mem, Miss, OutOfMemory, Seq};
 use std::alloc::Global;
 
 /// How far a line is: nothing of it is read but blanks, or a backslash has joined it to the one before, or it has a token.

@@ -2,7 +2,7 @@
 ghost use Rattle.std.specs.Prelude.{◌≡◌, [], ◌∷◌, ◌↔◌, drop, IsTrue, OnOk};
 ghost use Rattle.star_lex.specs.Layouts.{top};
 
-use bz_base::Mem;
+use bz_text::Mem;
 use std::alloc::Global;
 use std::marker::Model;
 

@@ -17,7 +17,7 @@ use crate::runs::{Within, run_length};
 use crate::strings::{behind, is_raw, string};
 use crate::token::{NoPiece, TokenKind};
 use crate::words::word_kind;
-use bz_base::{May, Miss};
+use bz_text::{May, Miss};
 use std::alloc::Global;
 
 /// A piece of a text: blanks, a comment, a line's end, a backslash before one, or a token.

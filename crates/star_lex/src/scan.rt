@@ -10,7 +10,7 @@ use crate::layout::Layout;
 use crate::pieces::front_piece;
 use crate::strings::behind;
 use crate::token::{LexFault, NoPiece, Token};
-use bz_base::{May, Miss, Seq};
+use bz_text::{May, Miss, Seq};
 use std::alloc::Global;
 
 /// Lays out the piece at the front of the rest, and gives its length.

@@ -8,7 +8,7 @@ ghost use Rattle.star_lex.specs.Strings.{bytes_of, closes, Contents, IsString, e
 use crate::bytes::{byte_at, is_visible, line_end};
 use crate::integers::number;
 use crate::token::NoPiece;
-use bz_base::{May, Mem, Miss, Txt};
+use bz_text::{May, Mem, Miss, Txt};
 use std::alloc::Global;
 
 /// How a string is written: by which quote, whether by three of them, whether behind an `r`.

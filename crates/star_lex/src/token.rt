@@ -1,5 +1,5 @@
 //! Tokens and where they stand.
-use bz_base::Txt;
+use bz_text::Txt;
 
 /// What a token is. An integer and a string have their value.
 #[derive(Debug, Drop)]

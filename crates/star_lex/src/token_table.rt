@@ -1,7 +1,7 @@
 //! Texts beside their tokens, worked out by hand from the lexis.
 use crate::scan::tokens;
 use crate::token::{Token, TokenKind};
-use bz_base::{Miss, Seq};
+use bz_text::{Miss, Seq};
 use std::alloc::{AllocError, Global};
 use std::test::Fail;
 

@@ -2,7 +2,7 @@
 ghost use Rattle.std.specs.Prelude.{◌≡◌, [], IfOk, length};
 ghost use Rattle.star_names.specs.Variables.{place, with_binding};
 
-use bz_base::{Mem, Seq, Txt};
+use bz_text::{Mem, Seq, Txt};
 use indexmap::IndexSet;
 use std::alloc::Global;
 use std::marker::Model;

@@ -3,7 +3,7 @@ ghost use Rattle.std.specs.Prelude.{◌≡◌, [], ◌∷◌, IfOk, length};
 ghost use Rattle.star_names.specs.Variables.{found, innermost, outer};
 
 use crate::names::Names;
-use bz_base::Mem;
+use bz_text::Mem;
 use std::alloc::Global;
 use std::marker::Model;
 
@@ -72,7 +72,7 @@ impl Scopes {
 #[cfg(test)]
 mod tests {
     use super::*;
-    use bz_base::Txt;
+    use bz_text::Txt;
     use std::test::Fail;
 
     #[test]

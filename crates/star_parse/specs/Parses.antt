@@ -1,8 +1,8 @@
 -- What a text is to each dialect: Bazel, ".bzl files" and "MODULE.bazel files".
 use Rattle.std.specs.Prelude.{◌≡◌, ℕ, List, Option, Some, None, Result, Ok, Err, ⊤}
-use Rattle.bz_base.specs.declared.memory.Miss.{Miss}
-use Rattle.bz_base.specs.declared.memory.Miss.TheVariants.{OutOfMemory, Because}
-use Rattle.star_core.specs.declared.files.File.{File}
+use Rattle.bz_text.specs.declared.memory.Miss.{Miss}
+use Rattle.bz_text.specs.declared.memory.Miss.TheVariants.{OutOfMemory, Because}
+use Rattle.star_trees.specs.declared.files.File.{File}
 use Rattle.star_dialects.specs.declared.forms.Refused.{Refused}
 use Rattle.star_dialects.specs.ExtensionFiles.{first_in_bzl}
 use Rattle.star_dialects.specs.Forms.{form_text}

@@ -1,14 +1,14 @@
 //! Files of the two dialects: the tree that a text spells, then the forms that its dialect refuses, then its names.
 ghost use Rattle.std.specs.Prelude.{◌≡◌, IfOk};
-ghost use Rattle.bz_base.specs.Answers.{Gives};
+ghost use Rattle.bz_text.specs.Answers.{Gives};
 ghost use Rattle.star_conditions.specs.WellFormed.{WellFormed};
 ghost use Rattle.star_grammar.specs.Texts.{Spelled};
 ghost use Rattle.star_parse.specs.Parses.{Parses, first_form, meant, named};
 ghost use Rattle.star_scopes.specs.Files.{resolved};
 ghost use Rattle.star_scopes.specs.declared.dialects.Dialect.TheVariants as dialect;
 
-use bz_base::{May, Mem, Miss, Txt};
-use star_core::File;
+use bz_text::{May, Mem, Miss, Txt};
+use star_trees::File;
 use star_dialects::{Refused, refused_in_bzl, refused_in_module};
 use star_grammar::BareStmt;
 use star_scopes::{Dialect, Unbound, resolved};

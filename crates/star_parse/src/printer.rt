@@ -1,7 +1,7 @@
 //! Trees as texts: a word for each construct, in round brackets with its parts.
-use bz_base::Txt;
+use bz_text::Txt;
 use sqlite_items::Boxed;
-use star_core::{BinOp, UnOp};
+use star_trees::{BinOp, UnOp};
 use star_grammar::{
     BareArg, BareClause, BareExpr, BareFile, BareLoadName, BarePair, BareParam, BareStmt,
     BareStmtKind,

@@ -2,8 +2,8 @@
 use crate::parse::{ParseFault, parse_bzl, parse_module};
 use crate::tree_table::repeated;
 use crate::variables::variables;
-use bz_base::{May, Miss};
-use star_core::File;
+use bz_text::{May, Miss};
+use star_trees::File;
 use std::alloc::{AllocError, Global};
 use std::test::Fail;
 

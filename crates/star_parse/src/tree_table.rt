@@ -1,6 +1,6 @@
 //! Texts beside their trees, worked out by hand from the grammar.
 use crate::printer::printed;
-use bz_base::Miss;
+use bz_text::Miss;
 use star_statements::{TreeFault, tree};
 use std::alloc::{AllocError, Global};
 use std::test::Fail;

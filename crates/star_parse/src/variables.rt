@@ -1,7 +1,7 @@
 //! The variables of a file as a text, in the order of the file's: `NAME@SCOPE.SLOT`, and `#PLACE` where a function stands.
-use bz_base::Txt;
+use bz_text::Txt;
 use sqlite_items::Boxed;
-use star_core::{
+use star_trees::{
     Arg, Clause, Expr, ExprPair, File, FnBody, FnCode, Param, Stmt, StmtKind, Target, Var,
 };
 use std::alloc::{AllocError, Global};

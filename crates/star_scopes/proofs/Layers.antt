@@ -1,7 +1,7 @@
 -- What a tree of each construct means, by what its parts mean.
 use Rattle.std.proofs.Common.{rules, ◌≡◌, ℕ, ℤ, List, map, Option, option_map}
-use Rattle.star_core.specs.declared.trees.BinOp.{BinOp}
-use Rattle.star_core.specs.declared.trees.UnOp.{UnOp}
+use Rattle.star_trees.specs.declared.trees.BinOp.{BinOp}
+use Rattle.star_trees.specs.declared.trees.UnOp.{UnOp}
 use Rattle.star_grammar.specs.declared.bare_expressions.BareArg as arg
 use Rattle.star_grammar.specs.declared.bare_expressions.BareArg.{BareArg}
 use Rattle.star_grammar.specs.declared.bare_expressions.BareArg.TheOpen.{BareArg-F, BareClause-F, BareExpr-F, BareParam-F}

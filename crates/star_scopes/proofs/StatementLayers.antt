@@ -1,6 +1,6 @@
 -- What a statement of each kind means, by what its parts mean.
 use Rattle.std.proofs.Common.{rules, ◌≡◌, ℕ, List, map, Option}
-use Rattle.star_core.specs.declared.trees.BinOp.{BinOp}
+use Rattle.star_trees.specs.declared.trees.BinOp.{BinOp}
 use Rattle.star_grammar.specs.declared.bare_expressions.BareExpr.{BareExpr}
 use Rattle.star_grammar.specs.declared.bare_expressions.BareName.{BareName}
 use Rattle.star_grammar.specs.declared.bare_expressions.BareParam.{BareParam}

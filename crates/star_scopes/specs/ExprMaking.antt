@@ -1,20 +1,20 @@
 -- The trees that are made of expressions, in the order of the text: each function takes its place where it begins.
 use Rattle.std.specs.Prelude.{ℕ, List, [], ◌∷◌, map, Option, Some, None}
-use Rattle.star_core.specs.declared.files.FnBody.TheVariants as body_tree
-use Rattle.star_core.specs.declared.files.FnCode.{FnCode}
-use Rattle.star_core.specs.declared.files.Param.{Param}
-use Rattle.star_core.specs.declared.files.Param.TheVariants as param_tree
-use Rattle.star_core.specs.declared.trees.Arg.{Arg}
-use Rattle.star_core.specs.declared.trees.Arg as arg_tree
-use Rattle.star_core.specs.declared.trees.BinOp.{BinOp}
-use Rattle.star_core.specs.declared.trees.UnOp.{UnOp}
-use Rattle.star_core.specs.declared.trees.Clause.{Clause}
-use Rattle.star_core.specs.declared.trees.Clause as clause_tree
-use Rattle.star_core.specs.declared.trees.Expr.{Expr}
-use Rattle.star_core.specs.declared.trees.Expr as e
-use Rattle.star_core.specs.declared.trees.ExprPair.{ExprPair, roll-ExprPair}
-use Rattle.star_core.specs.declared.trees.Target.{Target}
-use Rattle.star_core.specs.declared.trees.Target as target_tree
+use Rattle.star_trees.specs.declared.files.FnBody.TheVariants as body_tree
+use Rattle.star_trees.specs.declared.files.FnCode.{FnCode}
+use Rattle.star_trees.specs.declared.files.Param.{Param}
+use Rattle.star_trees.specs.declared.files.Param.TheVariants as param_tree
+use Rattle.star_trees.specs.declared.trees.Arg.{Arg}
+use Rattle.star_trees.specs.declared.trees.Arg as arg_tree
+use Rattle.star_trees.specs.declared.trees.BinOp.{BinOp}
+use Rattle.star_trees.specs.declared.trees.UnOp.{UnOp}
+use Rattle.star_trees.specs.declared.trees.Clause.{Clause}
+use Rattle.star_trees.specs.declared.trees.Clause as clause_tree
+use Rattle.star_trees.specs.declared.trees.Expr.{Expr}
+use Rattle.star_trees.specs.declared.trees.Expr as e
+use Rattle.star_trees.specs.declared.trees.ExprPair.{ExprPair, roll-ExprPair}
+use Rattle.star_trees.specs.declared.trees.Target.{Target}
+use Rattle.star_trees.specs.declared.trees.Target as target_tree
 use Rattle.star_grammar.specs.declared.bare_expressions.BareArg.TheOpen.{BareArg-F, BareClause-F, BareExpr-F, BareParam-F}
 use Rattle.star_names.specs.Variables.{Names}
 use Rattle.star_scopes.specs.Binds.{ClauseLayer, ExprLayer, ParamLayer}

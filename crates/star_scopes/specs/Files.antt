@@ -1,7 +1,7 @@
 -- Files whose names are resolved.
 use Rattle.std.specs.Prelude.{List, [], ◌∷◌, map, Result, Ok, Err}
-use Rattle.star_core.specs.declared.files.File.{File}
-use Rattle.star_core.specs.declared.trees.Stmt.{Stmt}
+use Rattle.star_trees.specs.declared.files.File.{File}
+use Rattle.star_trees.specs.declared.trees.Stmt.{Stmt}
 use Rattle.star_grammar.specs.declared.bare_statements.BareStmt.{BareStmt}
 use Rattle.star_names.specs.Variables.{Names}
 use Rattle.star_scopes.specs.declared.dialects.Dialect.{Dialect}

@@ -1,6 +1,6 @@
 -- What a step of making a tree gives and leaves.
 use Rattle.std.specs.Prelude.{◌≡◌, Result, Ok, Err, ⊤}
-use Rattle.bz_base.specs.declared.memory.OutOfMemory.{OutOfMemory}
+use Rattle.bz_text.specs.declared.memory.OutOfMemory.{OutOfMemory}
 use Rattle.star_scopes.specs.declared.lists.Lists.{Lists}
 use Rattle.star_scopes.specs.declared.maker.Maker.{Maker}
 

@@ -1,8 +1,8 @@
 -- What is made beside a tree: the functions of the file, each at the place that it takes where it begins, and its loads.
 use Rattle.std.specs.Prelude.{ℕ, List, [], ◌∷◌, ◌++◌, length, set, None}
-use Rattle.star_core.specs.declared.files.FnBody.TheVariants as body
-use Rattle.star_core.specs.declared.files.FnCode.{FnCode}
-use Rattle.star_core.specs.declared.loads.Load.{Load}
+use Rattle.star_trees.specs.declared.files.FnBody.TheVariants as body
+use Rattle.star_trees.specs.declared.files.FnCode.{FnCode}
+use Rattle.star_trees.specs.declared.loads.Load.{Load}
 use Rattle.star_scopes.specs.declared.lists.Lists.{Lists}
 
 -- a value, made with the functions and loads so far

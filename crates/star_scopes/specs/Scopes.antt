@@ -1,6 +1,6 @@
 -- The scopes of functions, comprehensions and files.
 use Rattle.std.specs.Prelude.{ℕ, List, [], length, Option, Some, None}
-use Rattle.star_core.specs.declared.trees.Var.{Var}
+use Rattle.star_trees.specs.declared.trees.Var.{Var}
 use Rattle.star_names.specs.Variables.{Names, found, place}
 use Rattle.star_scopes.specs.Bindings.{Binding, each_binds}
 

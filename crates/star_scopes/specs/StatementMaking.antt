@@ -1,13 +1,13 @@
 -- The trees that are made of statements, in the order of the text: each function takes its place where it begins.
 use Rattle.std.specs.Prelude.{ℕ, List, ◌∷◌, map, Option, Some, None}
-use Rattle.star_core.specs.declared.files.FnBody.TheVariants as body_tree
-use Rattle.star_core.specs.declared.files.FnCode.{FnCode}
-use Rattle.star_core.specs.declared.files.Param.{Param}
-use Rattle.star_core.specs.declared.loads.Load.{Load}
-use Rattle.star_core.specs.declared.trees.BinOp.{BinOp}
-use Rattle.star_core.specs.declared.trees.Stmt.{Stmt, roll-Stmt}
-use Rattle.star_core.specs.declared.trees.StmtKind.{StmtKind}
-use Rattle.star_core.specs.declared.trees.StmtKind as st
+use Rattle.star_trees.specs.declared.files.FnBody.TheVariants as body_tree
+use Rattle.star_trees.specs.declared.files.FnCode.{FnCode}
+use Rattle.star_trees.specs.declared.files.Param.{Param}
+use Rattle.star_trees.specs.declared.loads.Load.{Load}
+use Rattle.star_trees.specs.declared.trees.BinOp.{BinOp}
+use Rattle.star_trees.specs.declared.trees.Stmt.{Stmt, roll-Stmt}
+use Rattle.star_trees.specs.declared.trees.StmtKind.{StmtKind}
+use Rattle.star_trees.specs.declared.trees.StmtKind as st
 use Rattle.star_grammar.specs.declared.bare_expressions.BareExpr.{BareExpr}
 use Rattle.star_grammar.specs.declared.bare_expressions.BareName.{BareName}
 use Rattle.star_grammar.specs.declared.bare_expressions.BareParam.{BareParam}

@@ -7,7 +7,7 @@ ghost use Rattle.star_scopes.specs.Scopes.{function_variables, variables};
 ghost use Rattle.star_scopes.specs.StatementBinds.{body_binds};
 ghost use Rattle.star_scopes.specs.StatementMeaning.{kind_meaning, stmt_meaning};
 
-use bz_base::Mem;
+use bz_text::Mem;
 use star_grammar::{BareClause, BareExpr, BareLoadName, BareParam, BareStmt, BareStmtKind};
 use star_names::Names;
 use std::alloc::Global;

@@ -7,9 +7,9 @@ ghost use Rattle.star_scopes.specs.Maker.{Keeps, Makes};
 
 use crate::bindings::{clause_variables, param_variables};
 use crate::maker::Maker;
-use bz_base::{Mem, Seq, Txt};
+use bz_text::{Mem, Seq, Txt};
 use sqlite_items::{Boxed, Items};
-use star_core::{Arg, BinOp, Clause, Expr, ExprPair, FnBody, FnCode, Param, Target, UnOp};
+use star_trees::{Arg, BinOp, Clause, Expr, ExprPair, FnBody, FnCode, Param, Target, UnOp};
 use star_grammar::{BareArg, BareClause, BareExpr, BarePair, BareParam};
 use std::alloc::Global;
 

@@ -1,6 +1,6 @@
 //! The free names that expressions use, in the order of the text.
 ghost use Rattle.std.specs.Prelude.{◌≡◌, map, OnOk, option_map};
-ghost use Rattle.bz_base.specs.Answers.{Gives};
+ghost use Rattle.bz_text.specs.Answers.{Gives};
 ghost use Rattle.star_scopes.specs.ExprMeaning.{arg_meaning, clause_meaning, meaning, pair_meaning, param_meaning};
 ghost use Rattle.star_scopes.specs.ExprUses as spec;
 ghost use Rattle.star_names.specs.Variables.{outer};
@@ -12,7 +12,7 @@ use crate::bindings::{clause_variables, param_variables};
 use crate::dialects::Dialect;
 use crate::free_names::has_free;
 use crate::unbound::Unbound;
-use bz_base::{May, Miss};
+use bz_text::{May, Miss};
 use sqlite_items::Boxed;
 use star_grammar::{BareArg, BareClause, BareExpr, BareName, BarePair, BareParam};
 use star_names::{Names, Scopes};

@@ -1,6 +1,6 @@
 //! A file whose names are resolved.
 ghost use Rattle.std.specs.Prelude.{◌≡◌, IfOk};
-ghost use Rattle.bz_base.specs.Answers.{Gives};
+ghost use Rattle.bz_text.specs.Answers.{Gives};
 ghost use Rattle.star_scopes.specs.Files as spec;
 
 use crate::bindings::file_variables;
@@ -9,8 +9,8 @@ use crate::lists::Lists;
 use crate::maker::Maker;
 use crate::statement_uses::free_names;
 use crate::unbound::Unbound;
-use bz_base::{May, Mem};
-use star_core::File;
+use bz_text::{May, Mem};
+use star_trees::File;
 use star_grammar::BareStmt;
 use star_names::{Names, Scopes};
 use std::alloc::Global;

@@ -4,9 +4,9 @@ ghost use Rattle.star_scopes.specs.Files.{no_lists};
 ghost use Rattle.star_scopes.specs.Making as making;
 
 use crate::numbers::number;
-use bz_base::{Mem, OutOfMemory, Seq};
+use bz_text::{Mem, OutOfMemory, Seq};
 use sqlite_items::Items;
-use star_core::{FnBody, FnCode, Load};
+use star_trees::{FnBody, FnCode, Load};
 use std::alloc::Global;
 use std::mem;
 

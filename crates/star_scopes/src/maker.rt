@@ -4,8 +4,8 @@ ghost use Rattle.star_scopes.specs.Scopes as spec;
 
 use crate::lists::Lists;
 use crate::variables::variable;
-use bz_base::{Mem, Txt};
-use star_core::Var;
+use bz_text::{Mem, Txt};
+use star_trees::Var;
 use star_names::{Names, Scopes};
 use std::alloc::Global;
 

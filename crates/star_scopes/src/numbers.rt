@@ -1,7 +1,7 @@
 //! Places as they stand in trees.
 ghost use Rattle.std.specs.Prelude.{◌≡◌, IfOk};
 
-use bz_base::{Mem, OutOfMemory};
+use bz_text::{Mem, OutOfMemory};
 
 /// A place as it stands in a tree. There is no room for more than 4,294,967,296.
 pub(crate) fn number(place: usize) -> Mem<u32>

@@ -7,9 +7,9 @@ ghost use Rattle.star_scopes.specs.StatementMeaning.{kind_meaning, stmt_meaning}
 
 use crate::bindings::function_variables;
 use crate::maker::Maker;
-use bz_base::{Mem, Seq, Txt};
+use bz_text::{Mem, Seq, Txt};
 use sqlite_items::Items;
-use star_core::{BinOp, FnBody, FnCode, Load, LoadName, Param, Stmt, StmtKind};
+use star_trees::{BinOp, FnBody, FnCode, Load, LoadName, Param, Stmt, StmtKind};
 use star_grammar::{BareExpr, BareLoadName, BareName, BareParam, BareStmt, BareStmtKind};
 use std::alloc::Global;
 

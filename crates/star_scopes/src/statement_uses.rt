@@ -1,6 +1,6 @@
 //! The free names that statements use, in the order of the text.
 ghost use Rattle.std.specs.Prelude.{◌≡◌, map, OnOk};
-ghost use Rattle.bz_base.specs.Answers.{Gives};
+ghost use Rattle.bz_text.specs.Answers.{Gives};
 ghost use Rattle.star_names.specs.Variables.{Names};
 ghost use Rattle.star_scopes.specs.ExprMeaning.{meaning};
 ghost use Rattle.star_scopes.specs.Files.{file_scopes, free_names};
@@ -11,7 +11,7 @@ use crate::bindings::{file_variables, function_variables};
 use crate::dialects::Dialect;
 use crate::expr_uses::{expr_uses, params_use, two_use};
 use crate::unbound::Unbound;
-use bz_base::May;
+use bz_text::May;
 use star_grammar::{BareExpr, BareParam, BareStmt, BareStmtKind};
 use star_names::{Names, Scopes};
 use std::alloc::Global;

@@ -1,5 +1,5 @@
 //! Names without a meaning.
-use bz_base::Txt;
+use bz_text::Txt;
 
 /// A use of a name that nothing binds and the dialect doesn't know, and its line.
 #[derive(Debug, Drop)]

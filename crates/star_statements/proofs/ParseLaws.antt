@@ -1,7 +1,7 @@
 -- What the file of a text's symbols says of the text.
 use Rattle.std.proofs.Common.{◌≡◌, ℕ, List, Option, Some, None, Result, Ok, Err, sym, subst, ◌∙◌}
-use Rattle.bz_base.specs.declared.memory.Miss.{Miss}
-use Rattle.bz_base.specs.declared.memory.Miss.TheVariants.{OutOfMemory, Because}
+use Rattle.bz_text.specs.declared.memory.Miss.{Miss}
+use Rattle.bz_text.specs.declared.memory.Miss.TheVariants.{OutOfMemory, Because}
 use Rattle.star_lex.specs.declared.token.Token.{Token}
 use Rattle.star_lex.specs.Tokens.{Lexes}
 use Rattle.star_lex.proofs.ScanLaws.{Lexes-unique}

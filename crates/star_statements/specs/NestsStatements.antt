@@ -2,7 +2,7 @@
 use Rattle.std.specs.Prelude.{ℕ, List, Result}
 use Rattle.std.specs.declared.alloc.Global.{Global}
 use denote.Ref.{MutBor}
-use Rattle.bz_base.specs.declared.memory.Miss.{Miss}
+use Rattle.bz_text.specs.declared.memory.Miss.{Miss}
 use Rattle.star_grammar.specs.declared.bare_statements.BareStmt.{BareStmt}
 use Rattle.star_grammar.specs.declared.bare_statements.Inside.{Inside}
 use Rattle.star_grammar.specs.declared.bare_statements.Part.{Part}

@@ -1,7 +1,7 @@
 -- What a text's parse gives.
 use Rattle.std.specs.Prelude.{◌≡◌, ℕ, List, Option, Some, None, Result, Ok, Err, ⊤}
-use Rattle.bz_base.specs.declared.memory.Miss.{Miss}
-use Rattle.bz_base.specs.declared.memory.Miss.TheVariants.{OutOfMemory, Because}
+use Rattle.bz_text.specs.declared.memory.Miss.{Miss}
+use Rattle.bz_text.specs.declared.memory.Miss.TheVariants.{OutOfMemory, Because}
 use Rattle.star_lex.specs.declared.token.Token.{Token}
 use Rattle.star_lex.specs.Tokens.{Lexes}
 use Rattle.star_grammar.specs.declared.bare_statements.BareFile.{BareFile}

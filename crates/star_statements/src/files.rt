@@ -7,7 +7,7 @@ ghost use Rattle.star_grammar.specs.Statements.{at_top};
 ghost use Rattle.star_expressions.specs.Reads.{Finds, Reads};
 
 use crate::suites::Suites;
-use bz_base::{May, Miss};
+use bz_text::{May, Miss};
 use sqlite_items::Items;
 use star_expressions::{Cursor, NoTree};
 use star_grammar::{BareFile, BareStmt, Inside, Part, Sign};

@@ -5,8 +5,8 @@ ghost use Rattle.star_grammar.specs.StatementReading as spec;
 ghost use Rattle.star_grammar.specs.declared.symbols.Sign.TheVariants as s;
 ghost use Rattle.star_expressions.specs.Reads.{Reads};
 
-use bz_base::{May, Seq};
-use star_core::LoadName;
+use bz_text::{May, Seq};
+use star_trees::LoadName;
 use star_expressions::{Cursor, NoTree, checked, deep};
 use star_grammar::{BareLoadName, BareStmt, BareStmtKind, Inside, Sign};
 use std::alloc::Global;

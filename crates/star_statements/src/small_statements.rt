@@ -12,9 +12,9 @@ ghost use Rattle.star_statements.specs.Begun.{begun};
 ghost use Rattle.star_expressions.specs.Reads.{Finds, Reads};
 
 use crate::loads::load;
-use bz_base::May;
+use bz_text::May;
 use sqlite_items::Items;
-use star_core::BinOp;
+use star_trees::BinOp;
 use star_expressions::{Cursor, NoTree, checked, deep, is_place, is_target, only, test_list};
 use star_grammar::{BareExpr, BareStmt, BareStmtKind, Inside, Sign};
 use std::alloc::Global;

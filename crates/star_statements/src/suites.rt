@@ -15,7 +15,7 @@ ghost use Rattle.star_statements.specs.NestsStatements.{NestsStatements};
 ghost use Rattle.star_expressions.specs.Reads.{Finds, Reads};
 
 use crate::small_statements::simple;
-use bz_base::{May, Txt};
+use bz_text::{May, Txt};
 use sqlite_items::Items;
 use star_expressions::{
     Cursor, NoTree, are_params, checked, deep, expression, listed_params, only, target_list,

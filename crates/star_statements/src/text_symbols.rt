@@ -7,7 +7,7 @@ ghost use Rattle.star_lex.specs.Slices.{AreSlices};
 ghost use Rattle.star_lex.specs.declared.token.TokenKind.TheVariants as token_kind;
 ghost use Rattle.star_statements.specs.Slices.{IsPlaced};
 
-use bz_base::{Mem, Seq, Txt};
+use bz_text::{Mem, Seq, Txt};
 use star_grammar::{Sign, Symbol, SymbolKind};
 use star_lex::{Token, TokenKind};
 use std::alloc::Global;

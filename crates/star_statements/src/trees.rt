@@ -6,7 +6,7 @@ ghost use Rattle.star_statements.specs.Parsed.{Parsed, Whole};
 
 use crate::files::file;
 use crate::text_symbols::symbols_of;
-use bz_base::{May, Miss, Seq};
+use bz_text::{May, Miss, Seq};
 use star_expressions::{Cursor, NoTree};
 use star_grammar::{BareFile, Symbol};
 use star_lex::{LexFault, Token, tokens};

@@ -1,6 +1,6 @@
 use Rattle.std.proofs.Common.{sym, subst}
 use Rattle.serde_json.specs.View.{view}
-use Rattle.bz_base.specs.Answers.{Gives}
+use Rattle.bz_text.specs.Answers.{Gives}
 use Rattle.bz_base.proofs.PlainLayers.{plain_within_layer}
 use Rattle.bz_base.proofs.plain_reading.+reading.Goals as goal
 

@@ -1,5 +1,5 @@
 use Rattle.std.proofs.Common.{Err, ap, sym, ◌∙◌, subst, rules}
-use Rattle.bz_base.specs.Answers.{Gives}
+use Rattle.bz_text.specs.Answers.{Gives}
 use Rattle.mod_command.specs.LiteralForms.{lines_from, texts_of}
 use Rattle.mod_command.proofs.LiteralTexts.{Gives-missed, lines_from_next}
 use Rattle.mod_command.proofs.literal_form.read_each.Goals as goal

@@ -1,6 +1,6 @@
 use Rattle.std.proofs.Common.{◌≡◌, ap, arith}
 use Rattle.star_grammar.specs.ExpressionReading.{reads}
-use Rattle.star_expressions.proofs.Turns.{deeper}
+use Rattle.bz_text.proofs.Turns.{deeper}
 use Rattle.star_expressions.proofs.expressions.+expression.Goals as goal
 
 pub returns-then-nesting-eq0 : goal.returns-then-nesting-eq0

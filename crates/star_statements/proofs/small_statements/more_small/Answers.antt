@@ -4,7 +4,7 @@ use Rattle.star_grammar.specs.ExpressionReading.{reads}
 use Rattle.star_grammar.specs.StatementReading.{small}
 use Rattle.star_grammar.specs.Readers.{◌>>◌, skip, adds, goes_on, more, one, rounds}
 use Rattle.star_grammar.specs.declared.symbols.Sign.TheVariants as s
-use Rattle.star_expressions.proofs.Turns.{one_more, no_more}
+use Rattle.bz_text.proofs.Turns.{one_more, no_more}
 use Rattle.star_statements.proofs.small_statements.more_small.Goals as goal
 
 pub turns-preserved : goal.turns-preserved

@@ -1,5 +1,5 @@
 use Rattle.std.proofs.Common.{sym, ◌∙◌, subst, ap}
-use Rattle.bz_base.specs.Answers.{Gives}
+use Rattle.bz_text.specs.Answers.{Gives}
 use Rattle.mod_command.specs.Discovery.{discovery_rules}
 use Rattle.mod_command.specs.Walks.{with_ask}
 use Rattle.mod_command.proofs.KeySets.{set_finds, with_ask_known, with_ask_new, absent_if_added, present_unless_added}

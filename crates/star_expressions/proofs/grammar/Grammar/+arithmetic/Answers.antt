@@ -3,7 +3,7 @@ use Rattle.std.proofs.lemmas.Grind.{common_steps}
 use Rattle.star_grammar.specs.ExpressionReading.{reads, arithmetic, begins_operation, chain, operated, operation}
 use Rattle.star_grammar.specs.Readers.{rounds}
 use Rattle.star_expressions.proofs.Loosest.{arithmetic-loosest}
-use Rattle.star_expressions.proofs.Turns.{one_more, no_more}
+use Rattle.bz_text.proofs.Turns.{one_more, no_more}
 use Rattle.star_expressions.proofs.grammar.Grammar.+arithmetic.Goals as goal
 
 pub returns-in_err-left : goal.returns-in_err-left

@@ -2,7 +2,7 @@ use Rattle.std.proofs.Common.{rules, arith, [], ◌∷◌, Some, None}
 use Rattle.std.proofs.lemmas.Grind.{common_steps}
 use Rattle.star_grammar.specs.ExpressionReading.{reads, arithmetic, begins_operation, conjunction, disjunction, negation, operated, operation}
 use Rattle.star_grammar.specs.Readers.{rounds}
-use Rattle.star_expressions.proofs.Turns.{one_more, no_more}
+use Rattle.bz_text.proofs.Turns.{one_more, no_more}
 use Rattle.star_expressions.proofs.grammar.Grammar.disjunction.Goals as goal
 
 pub turns-preserved : goal.turns-preserved

@@ -3,7 +3,7 @@ use Rattle.std.proofs.lemmas.Grind.{common_steps}
 use Rattle.star_grammar.specs.ExpressionReading.{reads}
 use Rattle.star_grammar.specs.Readers.{◌>>◌, skip, adds, goes_on, more, one, rounds}
 use Rattle.star_grammar.specs.declared.symbols.Sign.TheVariants as s
-use Rattle.star_expressions.proofs.Turns.{one_more, no_more}
+use Rattle.bz_text.proofs.Turns.{one_more, no_more}
 use Rattle.star_expressions.proofs.grammar.Grammar.more_items.Goals as goal
 
 pub turns-preserved : goal.turns-preserved

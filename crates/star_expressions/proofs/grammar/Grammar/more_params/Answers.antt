@@ -4,7 +4,7 @@ use Rattle.star_grammar.specs.ExpressionReading.{reads, param, more_params}
 use Rattle.star_grammar.specs.Readers.{◌>>◌, skip, adds, goes_on, one, rounds}
 use Rattle.star_grammar.specs.declared.bare_expressions.Level.TheVariants as level
 use Rattle.star_grammar.specs.declared.symbols.Sign.TheVariants as s
-use Rattle.star_expressions.proofs.Turns.{one_more, no_more}
+use Rattle.bz_text.proofs.Turns.{one_more, no_more}
 use Rattle.star_expressions.proofs.grammar.Grammar.more_params.Goals as goal
 
 pub turns-preserved : goal.turns-preserved

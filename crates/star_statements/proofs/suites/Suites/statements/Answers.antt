@@ -5,7 +5,7 @@ use Rattle.star_grammar.specs.StatementReading.{stands}
 use Rattle.star_grammar.specs.Readers.{joins, rounds, sees, turns}
 use Rattle.star_grammar.specs.declared.bare_statements.Part.TheVariants as part
 use Rattle.star_grammar.specs.declared.symbols.Sign.TheVariants as s
-use Rattle.star_expressions.proofs.Turns.{one_more, no_more}
+use Rattle.bz_text.proofs.Turns.{one_more, no_more}
 use Rattle.star_statements.proofs.suites.Suites.statements.Goals as goal
 
 pub turns-preserved : goal.turns-preserved

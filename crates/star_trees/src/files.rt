@@ -1,7 +1,7 @@
 //! A file and the functions that it defines.
 use crate::loads::Load;
 use crate::trees::{Expr, Stmt};
-use bz_base::{Seq, Txt};
+use bz_text::{Seq, Txt};
 use sqlite_items::{Boxed, Items};
 
 /// The tree of a file. `functions` has every `def` and `lambda` in the order in which they begin in the text, `loads` is in the text's order, and `free` has each free name once, in order of first use.

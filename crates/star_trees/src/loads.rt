@@ -1,5 +1,5 @@
 //! The `load` statements of a file.
-use bz_base::{Seq, Txt};
+use bz_text::{Seq, Txt};
 
 #[derive(Debug, Drop)]
 pub struct Load {

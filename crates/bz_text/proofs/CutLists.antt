@@ -3,7 +3,7 @@ use Rattle.std.proofs.Common.{◌≡◌, ◌≢◌, ℕ, suc, ◌<◌, Bool, tru
 use Rattle.std.proofs.lemmas.Bool.{eqb-true, eq-eqb, ne_eqb, cond-true, cond-false}
 use Rattle.std.proofs.Math.Dec.{eqb}
 use denote.Ref.{Bor}
-use Rattle.bz_base.specs.Cuts.{behind, cut}
+use Rattle.bz_text.specs.Cuts.{behind, cut}
 
 -- no element is the mark
 abbrev pub Lacks : ℕ → List ℕ → Type 0

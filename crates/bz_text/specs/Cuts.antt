@@ -1,10 +1,16 @@
 -- Where a text is cut.
 use Rattle.std.specs.Prelude.{ℕ, ◌==◌, List, [], ◌∷◌, Option, None, Some, option_map, option_and_then, if◌then◌else◌}
+use Rattle.std.specs.List.{slice_split}
 
 -- what stands before the first mark, and what stands behind it
 abbrev pub cut : ℕ → List ℕ → Option (List ℕ × List ℕ)
 cut mark [] = None
-cut mark (b ∷ bs) = if b == mark then Some ([], bs) else option_map (λ parts. (b ∷ parts.0, parts.1)) (cut mark bs)
+cut mark (b ∷ bs) =
+    if b == mark then Some ([], bs) else option_map (λ parts. (b ∷ parts.0, parts.1)) (cut mark bs)
+
+-- all that stands between the marks of a text, in order; a text without a mark is one part
+abbrev pub parts_at : ℕ → List ℕ → List (List ℕ)
+parts_at mark text = slice_split (λ b. b == mark) text
 
 -- what stands behind the mark with which the text begins
 abbrev pub behind : ℕ → List ℕ → Option (List ℕ)

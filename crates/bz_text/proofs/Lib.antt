@@ -1,0 +1,4 @@
+pub mod CutLists
+pub mod CutParts
+pub mod ListWalks
+pub mod Turns
