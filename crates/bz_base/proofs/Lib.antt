@@ -1,5 +1,6 @@
+pub mod NormalNames
+pub mod NormalPaths
 pub mod PlainLaws
 pub mod PlainLayers
 pub mod PlainOrigins
-pub mod SegmentCuts
-pub mod Segments
+pub mod RootLeaving

@@ -1,10 +1,13 @@
-pub mod Answers
+pub use Rattle.bz_text.specs.Answers
+pub use Rattle.bz_text.specs.Cuts
 pub mod Counts
-pub mod Cuts
+pub mod ModuleDeclarations
 pub mod Digests
 pub mod Graphs
+pub mod Keys
 pub mod Labels
 pub mod Names
+pub mod NormalPaths
 pub mod Paths
 pub mod PlainLabels
 pub mod PlainReading

@@ -1,8 +1,14 @@
 -- The codes of refusals as they are printed.
-use Rattle.std.specs.Prelude.{List, ℕ, codes}
+use Rattle.std.specs.Prelude.{List, [], ℕ, codes}
 use Rattle.bz_base.specs.declared.refusals.Code.{Code}
-use Rattle.bz_base.specs.declared.refusals.Code.TheVariants.{NoRoot, Lex, Syntax, Dialect, Unbound, Steps, Size, Depth, Fault, Fail, BadValue, ModuleLate, BadName, BadVersion, Left, DoubleOverride, FewVersions, NoVersion, NoModule, BadSource, NameDiffers, SourceNotLocal, TooMany, NotInGraph, Levels, AboveAllowed, NameTaken, BadLabel, NotVisible, HostNotModule, NoRepo, NoFile, LoadCycle, NoName, NoExtension, NoClass, NoAttr, Missing, WrongType, NotAllowed, RepoTwice, NotExported, NotHere, Unsupported, NotText, BadPath, NoFetch, NotGenerated, OverrideMissing, InjectTaken, Cycle, LockBad, TooLarge, Form}
+use Rattle.bz_base.specs.declared.refusals.Refusal.{Refusal}
+use Rattle.bz_base.specs.declared.refusals.Code.TheVariants.{NoRoot, Lex, Syntax, Dialect, Unbound, Steps, Size, Depth, Fault, Fail, BadValue, ModuleLate, BadName, BadVersion, Left, DoubleOverride, FewVersions, NoVersion, NoModule, BadSource, NameDiffers, SourceNotLocal, TooMany, NotInGraph, Levels, AboveAllowed, NameTaken, BadLabel, NotVisible, HostNotModule, NoRepo, NoFile, LoadCycle, NoName, NoExtension, NoClass, NoAttr, Missing, WrongType, NotAllowed, RepoTwice, NotExported, NotHere, Unsupported, NotText, BadPath, NoFetch, NotGenerated, OverrideMissing, InjectTaken, Cycle, LockBad, TooLarge, Form, Untidy, TidyUnknown, TidyTaken, NotSelected, NoPath, NotMade, VendorBad, NotVendored, VendorDiffers}
 
+-- a refusal of this code with no place and no detail
+abbrev pub refusal_of : Code → Refusal
+refusal_of code = record { code = code; file = []; line = 0; detail = []; hint = 0 }
+
+-- a code as it is printed
 abbrev pub code_name : Code → List ℕ
 code_name NoRoot = codes "NoRoot"
 code_name Lex = codes "Lex"
@@ -58,3 +64,12 @@ code_name Cycle = codes "Cycle"
 code_name LockBad = codes "LockBad"
 code_name TooLarge = codes "TooLarge"
 code_name Form = codes "Form"
+code_name Untidy = codes "Untidy"
+code_name TidyUnknown = codes "TidyUnknown"
+code_name TidyTaken = codes "TidyTaken"
+code_name NotSelected = codes "NotSelected"
+code_name NoPath = codes "NoPath"
+code_name NotMade = codes "NotMade"
+code_name VendorBad = codes "VendorBad"
+code_name NotVendored = codes "NotVendored"
+code_name VendorDiffers = codes "VendorDiffers"

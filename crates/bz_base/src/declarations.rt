@@ -3,7 +3,7 @@ use crate::plain_values::Named;
 use bz_text::Seq;
 use bz_text::Txt;
 
-/// A `bazel_dep`. An empty `apparent` is a dependency without a repository name of its own.
+/// A `bazel_dep`. The `apparent` name is empty for a nodep dependency alone.
 #[derive(Debug, Drop)]
 pub struct Dep {
     pub name: Txt,
@@ -94,7 +94,7 @@ pub struct Override {
     pub line: u64,
 }
 
-/// A module file's declarations.
+/// A module file's declarations. `nodeps` are the dependencies without a repository name: each asks for a version only if its module is in the graph by other means.
 #[derive(Debug, Drop)]
 pub struct ModuleDecl {
     pub name: Txt,
@@ -102,6 +102,7 @@ pub struct ModuleDecl {
     pub level: u32,
     pub repo_name: Txt,
     pub deps: Seq<Dep>,
+    pub nodeps: Seq<Dep>,
     pub parts: Seq<Part>,
     pub overrides: Seq<Override>,
 }

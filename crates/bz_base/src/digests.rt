@@ -32,24 +32,3 @@ fn digest_of(bytes: &[u8]) -> [u8; 32]
 {
     Sha256::digest(bytes)
 }
-
-#[cfg(test)]
-mod tests {
-    use super::*;
-    use std::test::Fail;
-
-    #[test]
-    fn texts_of_the_empty_digest(rt: HostRuntime) -> Result<(), Fail> {
-        let hex = digest_hex(rt.alloc(), b"")?;
-        assert_eq!(rt;
-            hex.as_str(),
-            "e3b0c44298fc1c149afbf4c8996fb92427ae41e4649b934ca495991b7852b855"
-        );
-        let base64 = digest_base64(rt.alloc(), b"")?;
-        assert_eq!(rt;
-            base64.as_str(),
-            "47DEQpj8HBSa+/TImW+5JCeuQeRkm5NMpJWZG3hSuFU="
-        );
-        Ok(())
-    }
-}

@@ -53,29 +53,3 @@ fn pairs_copy(alloc: Global, pairs: &[PlainPair]) -> Mem<Items<PlainPair>>
     }
     Ok(Items::from_vec(copies))
 }
-
-#[cfg(test)]
-mod tests {
-    use super::*;
-    use crate::labels::Label;
-    use bz_text::Txt;
-    use std::test::Fail;
-
-    #[test]
-    fn a_copy_is_equal_and_a_shorter_list_is_not(rt: HostRuntime) -> Result<(), Fail> {
-        let alloc = rt.alloc();
-        let label = Label {
-            repo: Txt::of(alloc, "h+")?,
-            package: Txt::of(alloc, "p")?,
-            name: Txt::of(alloc, "f")?,
-        };
-        let second = label.copy(alloc)?;
-        assert!(rt; label.same(&second));
-        let mut items = Items::new(alloc);
-        items.push(Plain::Label(label))?;
-        let value = Plain::Items(items);
-        assert!(rt; value.copy(alloc)?.equal(&value));
-        assert!(rt; !value.equal(&Plain::Items(Items::new(alloc))));
-        Ok(())
-    }
-}

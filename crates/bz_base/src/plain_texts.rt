@@ -91,25 +91,3 @@ fn label_string(alloc: Global, label: &Label) -> Mem<String>
     text.push_str(label.name.as_str())?;
     Ok(text)
 }
-
-#[cfg(test)]
-mod tests {
-    use super::*;
-    use bz_text::Txt;
-    use sqlite_items::Items;
-    use std::test::Fail;
-
-    #[test]
-    fn pairs_are_a_list_of_lists(rt: HostRuntime) -> Result<(), Fail> {
-        let alloc = rt.alloc();
-        let key = Plain::Text(Txt::of(alloc, "a")?);
-        let mut pairs = Items::new(alloc);
-        pairs.push(PlainPair {
-            key,
-            value: Plain::Int(1),
-        })?;
-        let text = plain_json(alloc, &Plain::Pairs(pairs))?.to_string(alloc)?;
-        assert_eq!(rt; text.as_str(), "{\"pairs\":[[\"a\",1]]}");
-        Ok(())
-    }
-}

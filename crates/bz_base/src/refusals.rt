@@ -1,8 +1,9 @@
 //! Refusals: what a run answers in place of a text.
 ghost use Rattle.std.specs.Prelude.{◌≡◌};
-ghost use Rattle.bz_base.specs.Refusals.{code_name};
+ghost use Rattle.bz_base.specs.Refusals.{code_name, refusal_of};
 
 use bz_text::Txt;
+use std::alloc::Global;
 
 /// Why a run refuses its input.
 #[derive(Clone, Copy, Debug, PartialEq, Eq)]
@@ -115,6 +116,24 @@ pub enum Code {
     TooLarge,
     /// A module file in a form that is not read yet.
     Form,
+    /// The imports of an extension that no tidy line can bring in order.
+    Untidy,
+    /// A real name in the metadata that the extension does not generate.
+    TidyUnknown,
+    /// An apparent name that is taken when imports are brought in order.
+    TidyTaken,
+    /// A key that is not selected.
+    NotSelected,
+    /// Two modules between which there is no walk.
+    NoPath,
+    /// A repository whose files are not made.
+    NotMade,
+    /// An index of vendored files that cannot be read.
+    VendorBad,
+    /// A file that is not vendored.
+    NotVendored,
+    /// A vendored file that differs from its digest.
+    VendorDiffers,
 }
 
 /// A refusal and its place. An empty `file` is no place, a `line` of 0 is no line; `hint` is the line at which a fault of the text was met, else 0.
@@ -125,6 +144,21 @@ pub struct Refusal {
     pub line: u64,
     pub detail: Txt,
     pub hint: u64,
+}
+
+impl Refusal {
+    /// A refusal with no place and no detail.
+    pub fn of(alloc: Global, code: Code) -> Refusal
+        ensures { result ≡ refusal_of code }
+    {
+        Refusal {
+            code,
+            file: Txt::of_string(String::new(alloc)),
+            line: 0,
+            detail: Txt::of_string(String::new(alloc)),
+            hint: 0,
+        }
+    }
 }
 
 impl Code {
@@ -187,16 +221,15 @@ impl Code {
             Code::LockBad => "LockBad",
             Code::TooLarge => "TooLarge",
             Code::Form => "Form",
+            Code::Untidy => "Untidy",
+            Code::TidyUnknown => "TidyUnknown",
+            Code::TidyTaken => "TidyTaken",
+            Code::NotSelected => "NotSelected",
+            Code::NoPath => "NoPath",
+            Code::NotMade => "NotMade",
+            Code::VendorBad => "VendorBad",
+            Code::NotVendored => "NotVendored",
+            Code::VendorDiffers => "VendorDiffers",
         }
-    }
-}
-
-#[cfg(test)]
-mod tests {
-    use super::*;
-
-    #[test]
-    fn prints_its_name(rt: HostRuntime) {
-        assert_eq!(rt; Code::SourceNotLocal.name(), "SourceNotLocal");
     }
 }

@@ -1,11 +1,10 @@
 //! Paths of the tree, from the workspace or from `/` on.
-ghost use Rattle.std.specs.Prelude.{◌≡◌, ◌==◌, [], ◌∷◌, ◌++◌, List, ℕ, Ok, Result, IfOk, IfNone, IfSome, ◌<◌, string_bytes, slice_get, length, ◌-◌, flat_map, OnOk};
+ghost use Rattle.std.specs.Prelude.{◌≡◌, ◌==◌, [], ◌∷◌, ◌++◌, List, ℕ, Ok, Result, IfOk, IsTrue, string_bytes, slice_get, length, ◌-◌, flat_map, OnOk};
 ghost use Rattle.bz_text.specs.Answers.{Gives};
+ghost use Rattle.bz_base.specs.NormalPaths.{is_normal};
 ghost use Rattle.bz_base.specs.Paths.{above, has_nul, is_name, is_rooted, joined, names_joined, resolved, goes_up, segments_of, spelled, stays, stepped, walked};
 
-use bz_text::{May, Mem, Miss};
-use bz_text::Seq;
-use bz_text::Txt;
+use bz_text::{May, Mem, Miss, Seq, Txt, cut_at};
 use std::alloc::Global;
 use std::marker::Model;
 
@@ -13,18 +12,21 @@ use std::marker::Model;
 #[derive(Clone, Copy, Debug, PartialEq, Eq)]
 pub struct BadPath;
 
-/// A path, resolved by its text alone. Contracts see it as its bytes; the workspace is the empty path.
+/// A path, resolved by its text alone. Contracts see it as its bytes, which are a normal path; the workspace is the empty path.
 #[derive(Debug, Drop)]
 pub struct TreePath {
     text: Txt,
 }
 
 impl Model for TreePath {
-    ghost use Rattle.std.specs.Prelude.{List, ℕ};
+    ghost use Rattle.std.specs.Prelude.{List, ℕ, IsTrue};
+    ghost use Rattle.bz_base.specs.NormalPaths.{is_normal};
 
     ghost Value = { List ℕ };
 
     ghost view = { λ p. p.text };
+
+    ghost invariant = { λ p. IsTrue (is_normal p.text) };
 }
 
 impl TreePath {
@@ -45,7 +47,8 @@ impl TreePath {
     }
 
     pub fn as_str(&self) -> &str
-        ensures { result.now ≡ self.now }
+        ensures same { result.now ≡ self.now }
+        ensures normal { IsTrue (is_normal self.now) }
     {
         self.text.as_str()
     }
@@ -100,20 +103,11 @@ fn walk(alloc: Global, rooted: bool, names: Seq<Txt>, text: &str) -> May<Seq<Txt
 {
     let mut names = names;
     let mut rest = text;
-    'segments: while let Some((segment, more)) = first_segment(rest) {
+    'segments: while let Some((segment, more)) = cut_at(rest, '/') {
         names = step(alloc, rooted, names, segment)?;
         rest = more;
     }
     step(alloc, rooted, names, rest)
-}
-
-/// The text before the first slash and the one behind it.
-fn first_segment(text: &str) -> Option<(&str, &str)>
-    ensures only { IfNone result (segments_of text.now ≡ text.now ∷ []) }
-    ensures first { IfSome result (λ parts. segments_of text.now ≡ parts.0.now ∷ segments_of parts.1.now) }
-    ensures shorter { IfSome result (λ parts. length parts.1.now < length text.now) }
-{
-    text.split_once('/')
 }
 
 fn step(alloc: Global, rooted: bool, names: Seq<Txt>, segment: &str) -> May<Seq<Txt>, BadPath>
@@ -192,42 +186,4 @@ fn push_further(text: &mut String, names: &[Txt]) -> Mem<()>
         text.push_str(name.as_str())?;
     }
     Ok(())
-}
-
-#[cfg(test)]
-mod tests {
-    use super::*;
-    use std::test::Fail;
-
-    fn joined(rt: &HostRuntime, path: &str, text: &str) -> Result<String, Fail> {
-        let alloc = rt.alloc();
-        let path = TreePath::workspace(alloc).join(alloc, path)?;
-        Ok(String::from_str(alloc, path.join(alloc, text)?.as_str())?)
-    }
-
-    #[test]
-    fn joins_resolve_dots(rt: HostRuntime) -> Result<(), Fail> {
-        for (path, text, want) in [
-            ("a/b", "../c/./d", "a/c/d"),
-            ("", "../x", "../x"),
-            ("a//b/", "", "a/b"),
-            ("a", "/b/../c", "/c"),
-            ("..", "../x", "../../x"),
-            ("/", "", "/"),
-        ] {
-            assert_eq!(rt; joined(&rt, path, text)?.as_str(), want);
-        }
-        Ok(())
-    }
-
-    #[test]
-    fn no_join_leaves_the_top_or_has_a_nul(rt: HostRuntime) -> Result<(), Fail> {
-        let alloc = rt.alloc();
-        let top = TreePath::workspace(alloc).join(alloc, "/a")?;
-        for text in ["../..", "/..", "b\0"] {
-            assert!(rt; matches!(top.join(alloc, text), Err(Miss::Because(BadPath))));
-        }
-        assert_eq!(rt; top.copy(alloc)?.as_str(), "/a");
-        Ok(())
-    }
 }

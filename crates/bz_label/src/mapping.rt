@@ -88,28 +88,3 @@ impl Mapping {
         }
     }
 }
-
-#[cfg(test)]
-mod tests {
-    use super::*;
-    use std::test::Fail;
-
-    #[test]
-    fn names_keep_their_places(rt: HostRuntime) -> Result<(), Fail> {
-        let alloc = rt.alloc();
-        let mut map = Mapping::new(alloc);
-        map.add(alloc, Txt::of(alloc, "b")?, Txt::of(alloc, "b+")?)?;
-        map.set(alloc, Txt::of(alloc, "a")?, Txt::of(alloc, "a+")?)?;
-        map.set(alloc, Txt::of(alloc, "b")?, Txt::of(alloc, "b+2")?)?;
-        let again = map.add(alloc, Txt::of(alloc, "a")?, Txt::of(alloc, "c+")?);
-        assert!(rt; matches!(again, Err(Miss::Because(Taken))));
-        assert_eq!(rt; map.len(), 2);
-        let (apparent, canonical) = map.at(0);
-        assert_eq!(rt; apparent, "b");
-        assert_eq!(rt; canonical.as_str(), "b+2");
-        let found = map.get("a").ok_or("a")?;
-        assert_eq!(rt; found.as_str(), "a+");
-        assert!(rt; map.get("c").is_none());
-        Ok(())
-    }
-}

@@ -99,39 +99,3 @@ fn list<R: Files + AllocGlobal + Clone + Drop>(
     }
     Ok(Found::Listing(Seq::of_vec(listing)))
 }
-
-#[cfg(test)]
-mod tests {
-    use super::*;
-    use std::test::Fail;
-
-    fn path(rt: &HostRuntime, text: &str) -> Result<TreePath, Fail> {
-        Ok(TreePath::workspace(rt.alloc()).join(rt.alloc(), text)?)
-    }
-
-    #[test]
-    fn reads_real_files(rt: HostRuntime) -> Result<(), Fail> {
-        let alloc = rt.alloc();
-        fs::create_dir_all(&rt, "dir_tree_test/inner")?;
-        fs::write(&rt, "dir_tree_test/b", "text")?;
-        let mut tree = DirTree::here(&rt);
-        match tree.read(alloc, &path(&rt, "dir_tree_test/b")?)? {
-            Found::Bytes(bytes) => assert_eq!(rt; bytes.items(), b"text".as_slice()),
-            _ => assert!(rt; false, "the file is read"),
-        }
-        match tree.read(alloc, &path(&rt, "dir_tree_test")?)? {
-            Found::Listing(names) => {
-                assert_eq!(rt; names.items().len(), 2);
-                for (name, want) in names.items().iter().zip(["b", "inner"]) {
-                    assert_eq!(rt; name.as_str(), want);
-                }
-            }
-            _ => assert!(rt; false, "the directory is listed"),
-        }
-        for absent in ["dir_tree_test/c", "dir_tree_test/b/c"] {
-            assert!(rt; matches!(tree.read(alloc, &path(&rt, absent)?), Ok(Found::Absent)));
-        }
-        fs::remove_dir_all(&rt, "dir_tree_test")?;
-        Ok(())
-    }
-}

@@ -17,18 +17,3 @@ impl Gate for NoGate {
 
     fn left(&self, _job: &str) {}
 }
-
-#[cfg(test)]
-mod tests {
-    use super::*;
-
-    fn pass<G: Gate>(gate: &G) {
-        gate.entered("job");
-        gate.left("job");
-    }
-
-    #[test]
-    fn lets_everybody_pass(_rt: HostRuntime) {
-        pass(&NoGate);
-    }
-}

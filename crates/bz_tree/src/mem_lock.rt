@@ -122,26 +122,3 @@ fn load_bytes(alloc: Global, bytes: &[u8]) -> Mem<Loaded>
     }
     Ok(Loaded::Bytes(Seq::of_vec(Vec::from_slice(alloc, bytes)?)))
 }
-
-#[cfg(test)]
-mod tests {
-    use super::*;
-    use std::test::Fail;
-
-    #[test]
-    fn fails_as_planned(rt: HostRuntime) -> Result<(), Fail> {
-        let alloc = rt.alloc();
-        let mut lock = MemLock::new(None);
-        assert!(rt; matches!(lock.load(alloc), Ok(Loaded::Absent)));
-        lock.fail_load();
-        assert!(rt; matches!(lock.load(alloc), Err(OutsideFault::Failed)));
-        lock.fail_replace(true);
-        assert!(rt; lock.replace(Seq::of_vec(vec![in alloc; 1u8, 2]?)).is_err());
-        match lock.load(alloc)? {
-            Loaded::Bytes(bytes) => assert_eq!(rt; bytes.items(), [1, 2].as_slice()),
-            _ => assert!(rt; false, "the new bytes are kept"),
-        }
-        assert!(rt; lock.replace(Seq::new(alloc)).is_ok());
-        Ok(())
-    }
-}

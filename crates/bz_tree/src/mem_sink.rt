@@ -77,19 +77,3 @@ impl Sink for MemSink {
         Ok(taken)
     }
 }
-
-#[cfg(test)]
-mod tests {
-    use super::*;
-    use std::test::Fail;
-
-    #[test]
-    fn takes_what_it_has_room_for(rt: HostRuntime) -> Result<(), Fail> {
-        let mut sink = MemSink::new(rt.alloc(), 3)?;
-        assert_eq!(rt; sink.write(b"ab"), Ok(2));
-        assert_eq!(rt; sink.write(b"cd"), Ok(1));
-        assert_eq!(rt; sink.write(b"d"), Err(Failed));
-        assert_eq!(rt; sink.bytes(), b"abc".as_slice());
-        Ok(())
-    }
-}

@@ -45,27 +45,3 @@ fn put<W: Write>(writer: &mut W, bytes: &[u8]) -> io::Result<usize>
     writer.flush()?;
     Ok(taken)
 }
-
-#[cfg(test)]
-mod tests {
-    use super::*;
-    use std::fs;
-    use std::fs::File;
-    use std::test::Fail;
-
-    #[test]
-    fn writes_a_real_file(rt: HostRuntime) -> Result<(), Fail> {
-        fs::create_dir_all(&rt, "std_sink_test")?;
-        let mut sink = StdSink::of(File::create(&rt, "std_sink_test/out")?);
-        assert_eq!(rt; sink.write(b"text"), Ok(4));
-        assert_eq!(rt; sink.write(b""), Ok(0));
-        assert_eq!(rt;
-            fs::read_to_string(&rt, "std_sink_test/out")?.as_str(),
-            "text"
-        );
-        let mut full = StdSink::of(File::options().write(true).open(&rt, "/dev/full")?);
-        assert_eq!(rt; full.write(b"text"), Err(Failed));
-        fs::remove_dir_all(&rt, "std_sink_test")?;
-        Ok(())
-    }
-}

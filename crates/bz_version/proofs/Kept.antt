@@ -3,14 +3,11 @@ use Rattle.std.proofs.Common.{◌≡◌, ℕ, ◌==◌, Bool, true, false, List,
 use Rattle.std.proofs.lemmas.Bool.{both_ways, cases_Bool, eqb-true}
 use Rattle.std.specs.Char.{is_ascii_alphanumeric}
 use Rattle.std.specs.List.{AllByRecursion, flat_map}
+use Rattle.bz_text.proofs.ListWalks.{AllByRecursion-append}
 use Rattle.bz_version.proofs.Marks.{Absent, before-absent, before-mark, behind-absent, behind-mark, dots_cut}
 use Rattle.bz_version.specs.Grammar.{IsIdentifier, Parts, Spells, is_prerelease_byte, written}
 use Rattle.bz_version.specs.Precedence.{identifiers, parts_of}
 use Rattle.bz_version.specs.Texts.{before, behind, between_dots, dash, dot, dotted, marked, plus}
-
-pub AllByRecursion-append : {X : Type 0} (P : X → Type 0) (xs ys : List X) → AllByRecursion P xs → AllByRecursion P ys → AllByRecursion P (xs ++ ys)
-AllByRecursion-append P [] ys a b = b
-AllByRecursion-append P (x ∷ xs) ys a b = (a.0, AllByRecursion-append P xs ys a.1 b)
 
 -- a byte of the part is no such mark
 abbrev Avoids : (ℕ → Bool) → ℕ → Type 0

@@ -1,7 +1,9 @@
 -- Where a text is cut at its first mark.
-use Rattle.std.proofs.Common.{◌≡◌, ◌≢◌, ℕ, suc, ◌<◌, ◌==◌, false, List, [], ◌∷◌, ◌++◌, length, get_or, Some, None, refl, ap, arith, inl, inr, eq-eqb}
+use Rattle.std.proofs.Common.{◌≡◌, ◌≢◌, ℕ, suc, ◌<◌, ◌==◌, false, List, [], ◌∷◌, ◌++◌, length, get_or, Some, None, refl, ap, sym, arith, inl, inr, eq-eqb}
 use Rattle.std.proofs.lemmas.Bool.{cases_Bool, eqb-true}
 use Rattle.std.specs.List.{AllByRecursion}
+use Rattle.bz_text.specs.Cuts.{cut}
+use Rattle.bz_text.proofs.CutLists.{IsCut, IsCut-cut, Lacks}
 use Rattle.bz_version.specs.Precedence.{identifiers}
 use Rattle.bz_version.specs.Texts.{before, behind, between_dots, dot}
 
@@ -9,15 +11,9 @@ use Rattle.bz_version.specs.Texts.{before, behind, between_dots, dot}
 abbrev pub Absent : ℕ → List ℕ → Type 0
 Absent mark text = AllByRecursion (λ b. (b == mark) ≡ false) text
 
-pub absent_by_index : (mark : ℕ) (text : List ℕ) → ((i : ℕ) → i < length text → get_or text i 0 ≢ mark) → Absent mark text
-absent_by_index mark [] h = tt
-absent_by_index mark (b ∷ rest) h = (
-  elim (cases_Bool (b == mark)) [
-    | inl same ↦ absurd (h 0 (omega arith) (eqb-true b mark same))
-    | inr other ↦ other
-  ],
-  absent_by_index mark rest (λ i small. h (suc i) (omega arith)),
-)
+absent-Lacks : (mark : ℕ) (text : List ℕ) → Lacks mark text → Absent mark text
+absent-Lacks mark [] lacks = tt
+absent-Lacks mark (b ∷ rest) lacks = (lacks.0, absent-Lacks mark rest lacks.1)
 
 pub before-absent : (mark : ℕ) (text : List ℕ) → Absent mark text → before mark text ≡ text
 before-absent mark [] a = refl
@@ -34,6 +30,27 @@ before-mark mark (b ∷ front) rest a = rw a.0 (ap (λ (l : List ℕ). b ∷ l) 
 pub behind-mark : (mark : ℕ) (front rest : List ℕ) → Absent mark front → behind mark (front ++ mark ∷ rest) ≡ Some rest
 behind-mark mark [] rest a = rw (eq-eqb mark mark refl) refl
 behind-mark mark (b ∷ front) rest a = rw a.0 (behind-mark mark front rest a.1)
+
+-- the two cuts of a text, by where it is cut
+pub before-cut : (mark : ℕ) (text front rest : List ℕ) → cut mark text ≡ Some (front, rest) → front ≡ before mark text
+before-cut mark text front rest e =
+    let parts : IsCut mark text (Some (front, rest)) = rw e at (IsCut-cut mark text) in
+    sym (rw parts.0 (before-mark mark front rest (absent-Lacks mark front parts.1)))
+
+pub behind-cut : (mark : ℕ) (text front rest : List ℕ) → cut mark text ≡ Some (front, rest) → Some rest ≡ behind mark text
+behind-cut mark text front rest e =
+    let parts : IsCut mark text (Some (front, rest)) = rw e at (IsCut-cut mark text) in
+    sym (rw parts.0 (behind-mark mark front rest (absent-Lacks mark front parts.1)))
+
+pub before-uncut : (mark : ℕ) (text : List ℕ) → cut mark text ≡ None → text ≡ before mark text
+before-uncut mark text e =
+    let lacks : Lacks mark text = rw e at (IsCut-cut mark text) in
+    sym (before-absent mark text (absent-Lacks mark text lacks))
+
+pub behind-uncut : (mark : ℕ) (text : List ℕ) → cut mark text ≡ None → None ≡ behind mark text
+behind-uncut mark text e =
+    let lacks : Lacks mark text = rw e at (IsCut-cut mark text) in
+    sym (behind-absent mark text (absent-Lacks mark text lacks))
 
 -- the first of the parts between dots, and the others
 pub dots_cut : (text : List ℕ) → between_dots text ≡ before dot text ∷ identifiers (behind dot text)
