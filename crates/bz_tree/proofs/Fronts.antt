@@ -3,7 +3,7 @@ use Rattle.std.proofs.Common.{◌≡◌, ℕ, ◌+◌, true, false, List, length
 use denote.Ref.{Bor}
 use Rattle.std.proofs.lemmas.Str.Pattern.{starts_text}
 use Rattle.std.specs.Str.Pattern.{FindsTextPrefix}
-use Rattle.bz_tree.specs.MemTrees.{stripped}
+use Rattle.bz_tree.specs.Places.{stripped}
 
 -- what `strip_prefix` says at a text
 abbrev pub IsStrip : List ℕ → List ℕ → Option (Bor (List ℕ)) → Type 0

@@ -3,5 +3,7 @@ pub mod MemLocks
 pub mod MemSinks
 pub mod MemTrees
 pub mod Outcomes
+pub mod Places
+pub mod Plans
 pub mod Reads
 pub mod Writes

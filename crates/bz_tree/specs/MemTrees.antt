@@ -1,90 +1,101 @@
 -- What stands in a tree in memory, and what its calls leave.
-use Rattle.std.specs.Prelude.{ℕ, ◌-◌, ◌||◌, ◌==◌, nat_le, nat_eq, if◌then◌else◌, List, [], ◌∷◌, length, drop, insert, take_while, option_and_then, Option, Some, None, Result, Ok, Err, codes, bytes_eq}
-use Rattle.std.specs.List.{starts_with, before_first, list_any}
-use Rattle.std.specs.Cmp.Lexicographic.{slice_cmp}
-use Rattle.std.specs.Ordering.{is_lt, nat_cmp}
+use Rattle.std.specs.Prelude.{ℕ, ◌-◌, ◌||◌, ◌&&◌, ◌==◌, Bool, true, false, if◌then◌else◌, List, [], ◌∷◌, ◌++◌, bytes_eq, is_some, Result, Ok, Err}
+use Rattle.std.specs.List.{list_any}
 use Rattle.bz_base.specs.Counts.{counted}
-use Rattle.bz_base.specs.Paths.{goes_up}
+use Rattle.bz_tree.specs.Plans.{Plan, fails_next, no_plan, one_made}
+use Rattle.bz_tree.specs.Places.{after_file, next_name}
 use Rattle.bz_tree.specs.declared.tree.Found.{Found}
 use Rattle.bz_tree.specs.declared.tree.Found.TheVariants.{Bytes, Large, Listing, Absent}
 use Rattle.bz_tree.specs.declared.faults.OutsideFault.{OutsideFault}
 use Rattle.bz_tree.specs.declared.faults.OutsideFault.TheVariants.{Failed}
 use Rattle.bz_tree.specs.declared.mem_tree.Put.{Put}
 
--- 16 MiB, the largest file that is read
-abbrev pub largest_file : ℕ
-largest_file = 16777216
-
-abbrev pub file_of : List ℕ → Found
-file_of bytes = if nat_le (length bytes) largest_file then Bytes bytes else Large
-
--- the names of a directory; of anything else there are none
-abbrev pub names_of : Found → List (List ℕ)
-names_of (Listing names) = names
-names_of (Bytes bytes) = []
-names_of Large = []
-names_of Absent = []
-
--- the place of a name among names in byte order: behind all that are below it
-abbrev pub place_of : List ℕ → List (List ℕ) → ℕ
-place_of name names = length (take_while (λ other. is_lt (slice_cmp nat_cmp other name)) names)
-
--- the names in byte order, this one among them
-abbrev pub with_name : List ℕ → List (List ℕ) → List (List ℕ)
-with_name name names =
-    if list_any (λ other. bytes_eq other name) names then names else insert names (place_of name names) name
-
--- what stands behind a front of the text, where it begins with that front
-abbrev pub stripped : List ℕ → List ℕ → Option (List ℕ)
-stripped front text = if starts_with nat_eq text front then Some (drop (length front) text) else None
-
--- what stands behind a directory in the text of a path below it: behind the workspace and `/` at once, and else behind a slash
-abbrev pub path_behind : List ℕ → List ℕ → Option (List ℕ)
-path_behind directory path =
-    option_and_then (λ rest. if bytes_eq directory [] || bytes_eq directory (codes "/") then Some rest else stripped (codes "/") rest) (stripped directory path)
-
-abbrev pub first_name : List ℕ → List ℕ
-first_name path = before_first (λ b. b == 47) path
-
--- a segment that names something in its directory
-abbrev pub name_only : List ℕ → Option (List ℕ)
-name_only segment = if bytes_eq segment [] || goes_up segment then None else Some segment
-
--- the name in a directory by which a path leads on, where it leads through the directory
-abbrev pub next_name : List ℕ → List ℕ → Option (List ℕ)
-next_name directory path = option_and_then (λ rest. name_only (first_name rest)) (path_behind directory path)
-
-abbrev pub with_next : Option (List ℕ) → Found → Found
-with_next None before = before
-with_next (Some name) before = Listing (with_name name (names_of before))
-
--- what stands at a path once a file was put: the file at its own path, at each path above it a directory that lists the next name too, and what stood there at every other path
+-- what stands somewhere once a file was put
 abbrev pub after_put : Put → List ℕ → Found → Found
-after_put put path before =
-    if bytes_eq path put.path then file_of put.bytes else with_next (next_name path put.path) before
+after_put put there before = after_file put.path put.bytes there before
 
--- what stands at a path after each put in turn
+-- what stands somewhere after each put in turn
 abbrev pub after_puts : List Put → List ℕ → Found → Found
-after_puts [] path before = before
-after_puts (put ∷ puts) path before = after_puts puts path (after_put put path before)
+after_puts [] there before = before
+after_puts (put ∷ puts) there before = after_puts puts there (after_put put there before)
 
--- a tree in memory: the files put, how many reads from now one fails (0 where none is to), the count of failed reads and the path of the last
+-- a tree in memory: the files put, its reads and its placings, the count of failed reads and the path of the last, the count of failed placings, and for how many more there is room
 pub record MemTreeState : Type 0 where
   pub puts : List Put
-  pub fails_at : ℕ
+  pub reads : Plan
+  pub placings : Plan
   pub faults : ℕ
   pub failed : List ℕ
+  pub failed_places : ℕ
+  pub spare : ℕ
 
+-- the empty tree
+abbrev pub empty_tree : MemTreeState
+empty_tree =
+    record { puts = []; reads = no_plan; placings = no_plan; faults = 0; failed = []; failed_places = 0; spare = 0 }
+
+-- what stands at a path of the tree
 abbrev pub found_in : MemTreeState → List ℕ → Found
 found_in tree path = after_puts tree.puts path Absent
 
 -- the answer of the next read
 abbrev pub read_of : MemTreeState → List ℕ → Result Found OutsideFault
-read_of tree path = if tree.fails_at == 1 then Err Failed else Ok (found_in tree path)
+read_of tree path = if fails_next tree.reads then Err Failed else Ok (found_in tree path)
 
 -- the tree behind that answer
 abbrev pub after_read : MemTreeState → List ℕ → MemTreeState
 after_read tree path =
-    if tree.fails_at == 1
-    then record { puts = tree.puts; fails_at = 0; faults = counted tree.faults; failed = path }
-    else record { puts = tree.puts; fails_at = tree.fails_at - 1; faults = tree.faults; failed = tree.failed }
+    if fails_next tree.reads
+    then record tree { reads = one_made tree.reads; faults = counted tree.faults; failed = path }
+    else record tree { reads = one_made tree.reads }
+
+abbrev pub is_file : Found → Bool
+is_file (Bytes bytes) = true
+is_file Large = true
+is_file (Listing names) = false
+is_file Absent = false
+
+abbrev pub is_directory : Found → Bool
+is_directory (Listing names) = true
+is_directory (Bytes bytes) = false
+is_directory Large = false
+is_directory Absent = false
+
+-- whether a file stands somewhere once a file was put, by whether one stood there
+abbrev pub file_after : Put → List ℕ → Bool → Bool
+file_after put there before =
+    if bytes_eq there put.path then true else (if is_some (next_name there put.path) then false else before)
+
+abbrev pub file_after_each : List Put → List ℕ → Bool → Bool
+file_after_each [] there before = before
+file_after_each (put ∷ puts) there before = file_after_each puts there (file_after put there before)
+
+-- the same of a directory
+abbrev pub directory_after : Put → List ℕ → Bool → Bool
+directory_after put there before =
+    if bytes_eq there put.path then false else (if is_some (next_name there put.path) then true else before)
+
+abbrev pub directory_after_each : List Put → List ℕ → Bool → Bool
+directory_after_each [] there before = before
+directory_after_each (put ∷ puts) there before = directory_after_each puts there (directory_after put there before)
+
+-- a put's path leads on to the other path, and a file stands there now
+abbrev pub is_file_above : List Put → List ℕ → Put → Bool
+is_file_above puts path put = is_some (next_name put.path path) && is_file (after_puts puts put.path Absent)
+
+-- a directory stands in the file's place, or a file in a directory's
+abbrev pub is_blocked_by : List Put → List ℕ → Bool
+is_blocked_by puts path = is_directory (after_puts puts path Absent) || list_any (is_file_above puts path) puts
+
+-- the next placing fails
+abbrev pub refuses : MemTreeState → List ℕ → Bool
+refuses tree path = fails_next tree.placings || is_blocked_by tree.puts path
+
+-- the tree behind a placing that succeeds, and behind one that fails
+abbrev pub after_place : MemTreeState → Put → MemTreeState
+after_place tree put =
+    record tree { puts = tree.puts ++ put ∷ []; placings = one_made tree.placings; spare = tree.spare - 1 }
+
+abbrev pub after_failed_place : MemTreeState → MemTreeState
+after_failed_place tree =
+    record tree { placings = one_made tree.placings; failed_places = counted tree.failed_places }

@@ -8,6 +8,7 @@ pub mod lock_keeper;
 pub mod mem_lock;
 pub mod mem_sink;
 pub mod mem_tree;
+mod plan;
 pub mod sink;
 pub mod std_sink;
 pub mod tree;

@@ -1,16 +1,19 @@
 //! A tree in memory.
-ghost use Rattle.std.specs.Prelude.{◌≡◌, ◌≤◌, ◌++◌, [], ◌∷◌, ℕ, List, Option, Some, IfOk, IfSome, IsErrOf, OnErr, OnOk, bytes_eq, length, option_copied};
-ghost use Rattle.std.specs.Cmp.Lexicographic.{slice_cmp};
+ghost use Rattle.std.specs.Prelude.{◌≡◌, ◌≤◌, ◌<◌, ◌+◌, ◌-◌, ◌++◌, ◌↔◌, ◌||◌, [], ◌∷◌, ℕ, List, Option, Some, IfErr, IfOk, IfSome, IsErr, IsErrOf, IsTrue, OnErr, OnOk, bytes_eq, is_some, length, max, option_copied};
 ghost use Rattle.std.specs.List.{list_any};
-ghost use Rattle.std.specs.Ordering.{is_lt, nat_cmp};
-ghost use Rattle.bz_base.specs.Counts.{Rose};
-ghost use Rattle.bz_tree.specs.MemTrees.{after_put, after_puts, after_read, file_of, first_name, found_in, next_name, path_behind, place_of, read_of, stripped, with_name, with_next};
+ghost use Rattle.bz_base.specs.Counts.{Rose, counted};
+ghost use Rattle.bz_tree.specs.MemTrees as spec;
+ghost use Rattle.bz_tree.specs.MemTrees.{after_failed_place, after_place, after_put, after_puts, after_read, empty_tree, found_in, read_of, refuses};
+ghost use Rattle.bz_tree.specs.Plans.{with_failing};
 ghost use Rattle.bz_tree.specs.Outcomes.{IsOutcome};
-ghost use Rattle.bz_tree.specs.Reads.{failed_path_after};
+ghost use Rattle.bz_tree.specs.Places.{IsPlaced, IsPlacedInPart, after_file, file_of, first_name, index_of, next_name, path_behind, stripped, with_name, with_next};
+ghost use Rattle.bz_tree.specs.Reads as reads;
+ghost use Rattle.bz_tree.specs.Reads.{IsReadable, failed_path_after, largest_file};
 
 use crate::faults::OutsideFault;
+use crate::plan::Plan;
 use crate::tree::{Found, LARGEST_FILE, Tree};
-use bz_base::{Mem, Seq, TreePath, Txt};
+use bz_base::{Mem, OutOfMemory, Seq, TreePath, Txt};
 use std::alloc::Global;
 use std::marker::Model;
 
@@ -21,52 +24,97 @@ pub(crate) struct Put {
     bytes: Seq<u8>,
 }
 
-/// A tree in memory, whose reads fail only as planned.
+/// A tree in memory, whose reads and placings fail only as planned, and placings besides where a directory stands in the file's place or a file in a directory's.
 #[derive(Debug, Drop)]
 pub struct MemTree {
     puts: Vec<Put>,
-    fails_at: u64,
+    reads: Plan,
+    placings: Plan,
     faults: u64,
     failed: TreePath,
+    failed_places: u64,
+    spare: usize,
 }
 
 impl Model for MemTree {
+    ghost use Rattle.std.specs.Prelude.{◌+◌, ◌≤◌, vec_capacity, vec_len};
     ghost use Rattle.bz_tree.specs.MemTrees.{MemTreeState};
 
     ghost Value = { MemTreeState };
 
-    ghost view = { λ t. record { puts = t.puts.items; fails_at = t.fails_at; faults = t.faults; failed = t.failed } };
+    ghost view = { λ t. record {
+      puts = t.puts.items;
+      reads = t.reads;
+      placings = t.placings;
+      faults = t.faults;
+      failed = t.failed;
+      failed_places = t.failed_places;
+      spare = t.spare;
+    } };
+
+    ghost invariant = { λ t. vec_len t.puts + t.spare ≤ vec_capacity t.puts };
 }
 
 impl MemTree {
-    /// The empty tree, of which no read fails.
+    /// The empty tree, of which no call fails.
     pub fn new(alloc: Global) -> MemTree
-        ensures { result ≡ record { puts = []; fails_at = 0; faults = 0; failed = [] } }
+        ensures { result ≡ empty_tree }
     {
         MemTree {
             puts: Vec::new(alloc),
-            fails_at: 0,
+            reads: Plan::new(alloc),
+            placings: Plan::new(alloc),
             faults: 0,
             failed: TreePath::workspace(alloc),
+            failed_places: 0,
+            spare: 0,
         }
     }
 
-    /// Plans that the nth read from now fails, the next one being the first; 0 plans nothing.
-    pub fn fail_read(&mut self, nth: u64)
-        ensures { self.new ≡ record self.old { fails_at = nth } }
+    /// Plans that the nth read from now fails too, the next one being the first.
+    pub fn fail_read(&mut self, nth: u64) -> Mem<()>
+        ensures planned { OnOk result (self.new ≡ record self.old { reads = with_failing self.old.reads nth }) }
+        ensures unchanged { OnErr result (self.new ≡ self.old) }
     {
-        self.fails_at = nth;
+        self.reads.fail(nth)
+    }
+
+    /// Plans that the nth placing from now fails too, the next one being the first.
+    pub fn fail_place(&mut self, nth: u64) -> Mem<()>
+        ensures planned { OnOk result (self.new ≡ record self.old { placings = with_failing self.old.placings nth }) }
+        ensures unchanged { OnErr result (self.new ≡ self.old) }
+    {
+        self.placings.fail(nth)
     }
 
     /// Puts a file, whatever stood at its path, and the directories above it.
     pub fn put(&mut self, alloc: Global, path: TreePath, bytes: &[u8]) -> Mem<()>
         ensures put { OnOk result (self.new ≡ record self.old { puts = self.old.puts ++ record { path = path; bytes = bytes.now } ∷ [] }) }
-        ensures stands { OnOk result ((place : List ℕ) → found_in self.new place ≡ after_put (record { path = path; bytes = bytes.now }) place (found_in self.old place)) }
+        ensures stands { OnOk result ((there : List ℕ) → found_in self.new there ≡ after_put (record { path = path; bytes = bytes.now }) there (found_in self.old there)) }
         ensures unchanged { OnErr result (self.new ≡ self.old) }
     {
         let bytes = copied(alloc, bytes)?;
-        self.puts.push(Put { path, bytes })?;
+        self.add(Put { path, bytes })
+    }
+
+    /// Puts a file and leaves the room that there is.
+    fn add(&mut self, put: Put) -> Mem<()>
+        ensures put { OnOk result (self.new ≡ record self.old { puts = self.old.puts ++ put ∷ [] }) }
+        ensures unchanged { OnErr result (self.new ≡ self.old) }
+    {
+        let Some(room) = self.spare.checked_add(1) else {
+            return Err(OutOfMemory);
+        };
+        self.puts.reserve(room)?;
+        self.puts.push(put)?;
         Ok(())
+    }
+
+    /// Whether the next placing of a file at a path fails.
+    fn refuses(&self, path: &str) -> bool
+        ensures { result ≡ refuses self.now path.now }
+    {
+        self.placings.fails_next() || is_blocked(&self.puts, path)
     }
 }
 
@@ -77,25 +125,79 @@ impl Tree for MemTree {
 
     ghost failed = { λ t. t.failed };
 
+    ghost failed_places = { λ t. t.failed_places };
+
+    ghost spare = { λ t. t.spare };
+
     fn read(&mut self, alloc: Global, path: &TreePath) -> Result<Found, OutsideFault>
         ensures told { IfSome (Some (found_in self.old)) (λ look. IfOk result (λ found. found ≡ look path.now)) }
+        ensures readable { IfOk result IsReadable }
         ensures files_kept { Some (found_in self.new) ≡ Some (found_in self.old) }
         ensures count_never_falls { self.old.faults ≤ self.new.faults }
         ensures failed_only_counted { IsErrOf result OutsideFault.Failed → Rose self.old.faults self.new.faults }
         ensures failed_path { self.new.failed ≡ failed_path_after result path.now self.old.failed }
+        ensures failed_places_kept { self.new.failed_places ≡ self.old.failed_places }
+        ensures spare_kept { self.new.spare ≡ self.old.spare }
 
         // As planned, and in no other way.
         ensures planned { IsOutcome (read_of self.old path.now) (after_read self.old path.now) self.old result self.new }
     {
-        if self.fails_at == 1 {
+        if self.reads.fails_next() {
             self.failed = path.copy(alloc)?;
-            self.fails_at = 0;
+            self.reads.make();
             self.faults = self.faults.saturating_add(1);
             return Err(OutsideFault::Failed);
         }
         let found = find(alloc, &self.puts, path.as_str())?;
-        self.fails_at = self.fails_at.saturating_sub(1);
+        self.reads.make();
         Ok(found)
+    }
+
+    fn room(&mut self, _alloc: Global, places: u64) -> Mem<()>
+        ensures enough { OnOk result (places ≤ self.new.spare) }
+        ensures unchanged { OnErr result (self.new.spare ≡ self.old.spare) }
+        ensures files_kept { Some (found_in self.new) ≡ Some (found_in self.old) }
+        ensures faults_kept { self.new.faults ≡ self.old.faults }
+        ensures failed_kept { self.new.failed ≡ self.old.failed }
+        ensures failed_places_kept { self.new.failed_places ≡ self.old.failed_places }
+
+        // Never less room than there was.
+        ensures exact { OnOk result (self.new ≡ record self.old { spare = max self.old.spare places }) }
+    {
+        let places = self.spare.max(places as usize);
+        self.puts.reserve(places)?;
+        self.spare = places;
+        Ok(())
+    }
+
+    fn place(&mut self, path: TreePath, bytes: Seq<u8>) -> Result<(), TreePath>
+        requires small { length bytes ≤ largest_file }
+        requires room { 0 < self.old.spare }
+        ensures placed { OnOk result (IsPlaced (Some (found_in self.old)) path bytes (Some (found_in self.new))) }
+        ensures in_part { OnErr result (IsPlacedInPart (Some (found_in self.old)) path bytes (Some (found_in self.new))) }
+        ensures handed_back { IfErr result (λ back. back ≡ path) }
+        ensures count_never_falls { self.old.failed_places ≤ self.new.failed_places }
+        ensures failed_only_counted { OnErr result (Rose self.old.failed_places self.new.failed_places) }
+        ensures spare_lowered { self.old.spare ≤ self.new.spare + 1 }
+        ensures faults_kept { self.new.faults ≡ self.old.faults }
+        ensures failed_kept { self.new.failed ≡ self.old.failed }
+
+        // As planned or blocked, and in no other way.
+        ensures failing { IsErr result ↔ IsTrue (refuses self.old path) }
+        ensures after { OnOk result (self.new ≡ after_place self.old (record { path = path; bytes = bytes })) }
+        ensures after_failed { OnErr result (self.new ≡ after_failed_place self.old) }
+    {
+        let refused = self.refuses(path.as_str());
+        self.placings.make();
+        if refused {
+            self.failed_places = self.failed_places.saturating_add(1);
+            return Err(path);
+        }
+        self.spare -= 1;
+        match self.puts.push(Put { path, bytes }) {
+            Ok(()) => Ok(()),
+            Err(_) => unreachable!(),
+        }
     }
 }
 
@@ -107,7 +209,8 @@ fn copied(alloc: Global, bytes: &[u8]) -> Mem<Seq<u8>>
 
 /// What stands at a path after each put in turn.
 fn find(alloc: Global, puts: &[Put], path: &str) -> Mem<Found>
-    ensures { IfOk result (λ found. found ≡ after_puts puts.now path.now Found.Absent) }
+    ensures exact { IfOk result (λ found. found ≡ after_puts puts.now path.now Found.Absent) }
+    ensures readable { IfOk result IsReadable }
 {
     let mut found = Found::Absent;
     for put in puts {
@@ -190,9 +293,9 @@ fn add_name(alloc: Global, names: Seq<Txt>, name: &str) -> Mem<Seq<Txt>>
     if has_name(names.items(), name) {
         return Ok(names);
     }
-    let place = place_among(names.items(), name);
+    let index = index_among(names.items(), name);
     let mut names = names.into_vec();
-    names.insert(place, Txt::of(alloc, name)?)?;
+    names.insert(index, Txt::of(alloc, name)?)?;
     Ok(Seq::of_vec(names))
 }
 
@@ -202,8 +305,8 @@ fn has_name(names: &[Txt], name: &str) -> bool
     names.iter().any(|other| other.as_str() == name)
 }
 
-fn place_among(names: &[Txt], name: &str) -> usize
-    ensures exact { result ≡ place_of name.now names.now }
+fn index_among(names: &[Txt], name: &str) -> usize
+    ensures exact { result ≡ index_of name.now names.now }
     ensures within { result ≤ length names.now }
 {
     names
@@ -213,7 +316,74 @@ fn place_among(names: &[Txt], name: &str) -> usize
 }
 
 fn is_below(text: &str, other: &str) -> bool
-    ensures { result ≡ is_lt (slice_cmp nat_cmp text.now other.now) }
+    ensures { result ≡ reads.is_below text.now other.now }
 {
     text < other
+}
+
+/// Whether a directory stands in the file's place, or a file in a directory's.
+fn is_blocked(puts: &[Put], path: &str) -> bool
+    ensures { result ≡ spec.is_blocked_by puts.now path.now }
+{
+    is_directory_at(puts, path) || has_file_above(puts, path)
+}
+
+/// Whether a file stands somewhere above a path.
+fn has_file_above(puts: &[Put], path: &str) -> bool
+    ensures { result ≡ list_any (spec.is_file_above puts.now path.now) puts.now }
+{
+    puts.iter().any(|put| is_file_above(puts, path, put))
+}
+
+/// Whether a put's path leads on to the other path, and a file stands there now.
+fn is_file_above(puts: &[Put], path: &str, put: &Put) -> bool
+    ensures { result ≡ spec.is_file_above puts.now path.now put.now }
+{
+    next(put.path.as_str(), path).is_some() && is_file_at(puts, put.path.as_str())
+}
+
+/// Whether a file stands at a path.
+fn is_file_at(puts: &[Put], path: &str) -> bool
+    ensures { result ≡ spec.is_file (after_puts puts.now path.now Found.Absent) }
+{
+    let mut stands = false;
+    for put in puts {
+        stands = file_after(put, path, stands);
+    }
+    stands
+}
+
+fn file_after(put: &Put, path: &str, before: bool) -> bool
+    ensures { result ≡ spec.file_after put.now path.now before }
+{
+    if path == put.path.as_str() {
+        true
+    } else if next(path, put.path.as_str()).is_some() {
+        false
+    } else {
+        before
+    }
+}
+
+/// Whether a directory stands at a path.
+fn is_directory_at(puts: &[Put], path: &str) -> bool
+    ensures { result ≡ spec.is_directory (after_puts puts.now path.now Found.Absent) }
+{
+    let mut stands = false;
+    for put in puts {
+        stands = directory_after(put, path, stands);
+    }
+    stands
+}
+
+fn directory_after(put: &Put, path: &str, before: bool) -> bool
+    ensures { result ≡ spec.directory_after put.now path.now before }
+{
+    if path == put.path.as_str() {
+        false
+    } else if next(path, put.path.as_str()).is_some() {
+        true
+    } else {
+        before
+    }
 }
