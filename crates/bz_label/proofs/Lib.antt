@@ -1,4 +1,4 @@
-pub mod CutLists
+pub mod GoodLabels
 pub mod MappedNames
 pub mod ResolvedLabels
 pub mod SegmentLists

@@ -1,6 +1,6 @@
 -- Repository mappings, kept under owned texts.
 use Rattle.std.proofs.Common.{◌≡◌, ◌≢◌, ℕ, zero, suc, ◌<◌, get_or, Bool, true, false, List, [], ◌∷◌, ◌++◌, None, Some, String, string_bytes, length, if◌then◌else◌, refl, ap, ◌∙◌, sym, arith}
-use Rattle.std.proofs.lemmas.Bool.{true≢false}
+use Rattle.std.proofs.lemmas.Bool.{and_from, and_parts, true≢false}
 use Rattle.std.proofs.lemmas.Map.Keys.{IsDistinct-head, IsDistinct-tail}
 use Rattle.std.proofs.lemmas.Slice.Eq.{bytes_eq-Decides}
 use Rattle.std.specs.List.{AllByRecursion, IsDistinct}
@@ -9,7 +9,8 @@ use Rattle.std.specs.String.{string_eq}
 use Rattle.std.specs.Map.{keys_of, lookup}
 use Rattle.std.specs.declared.alloc.Global.{Global}
 use Rattle.indexmap.specs.IndexMap.{insert_entry}
-use Rattle.bz_label.specs.Mappings.{NamesDiffer, found, pairs_of, put}
+use Rattle.bz_base.specs.Names.{is_apparent, is_canonical}
+use Rattle.bz_label.specs.Mappings.{NamesDiffer, are_names, found, pairs_of, put}
 
 pub lookup-found : (apparent : List ℕ) (entries : List (String Global × List ℕ)) → lookup (λ k. bytes_eq apparent (string_bytes k)) entries ≡ found apparent (pairs_of entries)
 lookup-found apparent [] = refl
@@ -46,3 +47,12 @@ NamesDiffer-pairs_of (entry ∷ entries) h zero (suc j) d before within e =
 NamesDiffer-pairs_of (entry ∷ entries) h (suc i) zero d before within e = absurd (omega arith)
 NamesDiffer-pairs_of (entry ∷ entries) h (suc i) (suc j) d before within e =
     NamesDiffer-pairs_of entries (IsDistinct-tail string_eq entry.0 (keys_of entries) h) i j d (omega arith) (omega arith) e
+
+pub are_names-put : (apparent canonical : List ℕ) (pairs : List (List ℕ × List ℕ)) → is_apparent apparent ≡ true → is_canonical canonical ≡ true → are_names pairs ≡ true → are_names (put apparent canonical pairs) ≡ true
+are_names-put apparent canonical [] one other all = and_from _ _ (and_from _ _ one other) refl
+are_names-put apparent canonical (pair ∷ pairs) one other all =
+    by (bytes_eq apparent pair.0) (are_names-put apparent canonical pairs one other (and_parts _ _ all).1)
+  where
+    by : (same : Bool) → are_names (put apparent canonical pairs) ≡ true → are_names (if same then (pair.0, canonical) ∷ pairs else pair ∷ put apparent canonical pairs) ≡ true
+    by true further = and_from _ _ (and_from _ _ (and_parts _ _ (and_parts _ _ all).0).0 other) (and_parts _ _ all).1
+    by false further = and_from _ _ (and_parts _ _ all).0 further

@@ -4,7 +4,7 @@ use Rattle.std.proofs.lemmas.Bool.{and_parts, and_from, cond-true, cond-false, c
 use Rattle.std.proofs.lemmas.List.Splits.{slice_split-cons_yes}
 use Rattle.std.proofs.Math.Dec.{eqb}
 use Rattle.std.specs.List.{list_all}
-use Rattle.bz_text.specs.Answers.{Gives}
+use Rattle.bz_text.specs.Answers.{Gives, UnlessOutOfMemory}
 use Rattle.bz_base.specs.Names.{is_apparent, is_apparent_byte, is_canonical, is_canonical_byte, is_label_byte, is_package, is_segment, is_segmented}
 use Rattle.bz_base.specs.Paths.{segments_of}
 use Rattle.bz_text.specs.declared.memory.Miss.{Miss}
@@ -13,12 +13,12 @@ use Rattle.bz_label.specs.declared.label_text.BadLabel.{BadLabel}
 use Rattle.bz_label.specs.declared.label_text.LabelText.{LabelText}
 use Rattle.bz_label.specs.declared.label_text.RepoPart.{RepoPart}
 use Rattle.bz_label.specs.declared.label_text.RepoPart.TheVariants.{Home, Apparent, Canonical}
-use Rattle.bz_label.specs.Cuts.{behind, cut, cut_at_root}
+use Rattle.bz_text.specs.Cuts.{behind, cut, cut_at_root}
 use Rattle.bz_label.specs.Grammar as grammar
 use Rattle.bz_label.specs.Grammar.{SpellsLabel, is_repo, repo_text}
 use Rattle.bz_label.specs.Parts.{alone_parts, at_home, bad_label, home_or_elsewhere, label_parts, last_segment, marked_repo, repo_of, repo_parts, rooted_parts, rootless_or_rooted, target_parts, unmarked_repo}
-use Rattle.bz_label.proofs.CutLists.{IsBehind, IsBehind-behind, IsCut, IsCut-cut, Lacks, cut-at, cut-none}
-use Rattle.bz_label.proofs.SegmentLists.{segments_of-joined}
+use Rattle.bz_text.proofs.CutLists.{IsBehind, IsBehind-behind, IsCut, IsCut-cut, Lacks, cut-at, cut-none}
+use Rattle.bz_text.proofs.CutParts.{parts_at-joined}
 
 -- ---- from the parts to the grammar
 
@@ -126,7 +126,7 @@ Lacks-package : (text : List ℕ) → is_package text ≡ true → Lacks 58 text
 Lacks-package [] h = tt
 Lacks-package (b ∷ bs) h = Lacks-segmented (b ∷ bs) h
 
-Lacks-repo : (repo : RepoPart) → is_repo repo ≡ true → Lacks 47 (repo_text repo)
+pub Lacks-repo : (repo : RepoPart) → is_repo repo ≡ true → Lacks 47 (repo_text repo)
 Lacks-repo Home h = tt
 Lacks-repo (Apparent name) h = (refl, Lacks-list_all is_apparent_byte 47 refl name h)
 Lacks-repo (Canonical name) h = (refl, (refl, Lacks-list_all is_canonical_byte 47 refl name h))
@@ -168,7 +168,7 @@ cut_at_root-segmented text h = by (cut 47 text) (IsCut-cut 47 text)
     by None lacks = refl
     by (Some parts) cuts =
         let segments : list_all is_segment (segments_of text) ≡ true = (and_parts _ _ h).1 in
-        let joined : segments_of text ≡ parts.0 ∷ segments_of parts.1 = ap segments_of cuts.0 ∙ segments_of-joined parts.0 parts.1 cuts.1 in
+        let joined : segments_of text ≡ parts.0 ∷ segments_of parts.1 = ap segments_of cuts.0 ∙ parts_at-joined 47 parts.0 parts.1 cuts.1 in
         let rest : list_all is_segment (segments_of parts.1) ≡ true = (and_parts _ _ (sym (ap (list_all is_segment) joined) ∙ segments)).1 in
         let joined_rest : List ℕ → List ℕ × List ℕ = λ target. (parts.0, target) in
         ap (option_map joined_rest) (behind-segment parts.1 rest)
@@ -201,3 +201,13 @@ Gives-no_label text (Ok given) e is parts spells = absurd (cc)
 Gives-no_label text (Err OutOfMemory) e is parts spells = absurd (cc)
 Gives-no_label text (Err (Because bad)) e is parts spells =
     let spelled : label_parts text ≡ Ok parts = label_parts-spelled text parts spells in absurd (cc)
+
+pub one_reading : (text : List ℕ) (parts other : LabelText) → SpellsLabel text parts → SpellsLabel text other → parts ≡ other
+one_reading text parts other one two =
+    let first : label_parts text ≡ Ok parts = label_parts-spelled text parts one in
+    let second : label_parts text ≡ Ok other = label_parts-spelled text other two in cc
+
+pub Gives-given : (text : List ℕ) (r : Result LabelText (Miss BadLabel)) → Gives (label_parts text) r → (parts : LabelText) → SpellsLabel text parts → UnlessOutOfMemory (λ given. given ≡ Ok parts) r
+Gives-given text (Ok given) e parts spells = sym e ∙ label_parts-spelled text parts spells
+Gives-given text (Err OutOfMemory) e parts spells = tt
+Gives-given text (Err (Because bad)) e parts spells = sym e ∙ label_parts-spelled text parts spells

@@ -4,7 +4,7 @@ use Rattle.bz_base.specs.Names.{is_apparent, is_canonical, is_package, is_segmen
 use Rattle.bz_label.specs.declared.label_text.LabelText.{LabelText}
 use Rattle.bz_label.specs.declared.label_text.RepoPart.{RepoPart}
 use Rattle.bz_label.specs.declared.label_text.RepoPart.TheVariants.{Home, Apparent, Canonical}
-use Rattle.bz_label.specs.Cuts.{behind}
+use Rattle.bz_text.specs.Cuts.{behind}
 use Rattle.bz_label.specs.Parts.{last_segment}
 
 -- ['@@' Canonical | '@' Apparent]

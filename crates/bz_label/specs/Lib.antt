@@ -1,4 +1,3 @@
-pub mod Cuts
 pub mod Grammar
 pub mod Mappings
 pub mod Parts

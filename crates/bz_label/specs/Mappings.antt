@@ -1,5 +1,6 @@
 -- Repository mappings as lists of pairs of an apparent and a canonical name: Bazel's "External dependencies overview", "Repository mapping".
-use Rattle.std.specs.Prelude.{ℕ, ◌≢◌, List, [], ◌∷◌, Option, None, Some, String, string_bytes, bytes_eq, map, if◌then◌else◌, IsTrue, All, AllPairs}
+use Rattle.std.specs.Prelude.{ℕ, ◌≢◌, Bool, ◌&&◌, List, [], ◌∷◌, Option, None, Some, String, string_bytes, bytes_eq, map, if◌then◌else◌, AllPairs}
+use Rattle.std.specs.List.{list_all}
 use Rattle.std.specs.declared.alloc.Global.{Global}
 use Rattle.bz_base.specs.Names.{is_apparent, is_canonical}
 use Rattle.bz_label.specs.declared.mapping.Taken.{Taken}
@@ -27,6 +28,6 @@ put apparent canonical (pair ∷ pairs) =
 abbrev pub NamesDiffer : List (List ℕ × List ℕ) → Type 0
 NamesDiffer pairs = AllPairs (λ one other. one.0 ≢ other.0) pairs
 
--- what may be put into a mapping: apparent and canonical names as labels have them
-abbrev pub AreNames : List (List ℕ × List ℕ) → Type 0
-AreNames pairs = All (λ pair. IsTrue (is_apparent pair.0) × IsTrue (is_canonical pair.1)) pairs
+-- each apparent and each canonical name is one that a label may have
+abbrev pub are_names : List (List ℕ × List ℕ) → Bool
+are_names pairs = list_all (λ pair. is_apparent pair.0 && is_canonical pair.1) pairs

@@ -7,7 +7,7 @@ use Rattle.bz_label.specs.declared.label_text.BadLabel.{BadLabel}
 use Rattle.bz_label.specs.declared.label_text.LabelText.{LabelText}
 use Rattle.bz_label.specs.declared.label_text.RepoPart.{RepoPart}
 use Rattle.bz_label.specs.declared.label_text.RepoPart.TheVariants.{Home, Apparent, Canonical}
-use Rattle.bz_label.specs.Cuts.{behind, cut, cut_at_root}
+use Rattle.bz_text.specs.Cuts.{behind, cut, cut_at_root}
 
 -- that a text is no label
 abbrev pub bad_label : BadLabel

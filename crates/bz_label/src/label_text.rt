@@ -1,13 +1,15 @@
 //! The text of a label, taken apart.
 ghost use Rattle.std.specs.Prelude.{◌≡◌, IfOk, IfErr, List, ℕ, Ok, Some, None};
-ghost use Rattle.bz_text.specs.Answers.{Gives};
-ghost use Rattle.bz_label.specs.Cuts.{behind, cut, cut_at_root};
+ghost use Rattle.bz_text.specs.Answers.{Gives, UnlessOutOfMemory};
+ghost use Rattle.bz_text.specs.Cuts.{behind, cut, cut_at_root};
 ghost use Rattle.bz_label.specs.Grammar.{SpellsLabel};
 ghost use Rattle.bz_label.specs.Parts.{alone_parts, apparent_repo, at_home, bad_label, canonical_repo, label_parts, named_target, package_target, repo_alone, repo_of, rooted_parts, target_parts};
 
-use crate::cuts::{cut_at, cut_at_double_slash, text_behind};
-use crate::names::{is_apparent, is_canonical, is_package, is_segment, is_segmented, last_name};
-use bz_base::{May, Miss, Txt};
+use crate::names::last_name;
+use bz_base::{
+    May, Miss, Txt, cut_at, cut_at_double_slash, is_apparent, is_canonical, is_package, is_segment,
+    is_segmented, text_behind,
+};
 use std::alloc::Global;
 
 /// The text is no label.
@@ -31,9 +33,11 @@ pub struct LabelText {
 }
 
 impl LabelText {
+    /// The parts of a label's text.
     pub fn parse(alloc: Global, text: &str) -> May<LabelText, BadLabel>
         ensures exact { Gives (label_parts text.now) result }
         ensures label { IfOk result (λ parts. SpellsLabel text.now parts) }
+        ensures given { (parts : LabelText) → SpellsLabel text.now parts → UnlessOutOfMemory (λ given. given ≡ Ok parts) result }
         ensures no_label { result ≡ Err (Miss.Because bad_label) → (parts : LabelText) → ¬ SpellsLabel text.now parts }
     {
         take_apart(alloc, text)

@@ -1,8 +1,8 @@
 //! Labels as they are written, and what they mean under a repository mapping.
 #![tactic(auto)]
 
-mod cuts;
 pub mod label_text;
+pub mod laws;
 pub mod mapping;
 mod names;
 pub mod resolution;

@@ -1,10 +1,11 @@
 //! What a label's text means in its home.
-ghost use Rattle.std.specs.Prelude.{◌≡◌, IfOk, List, ℕ, Err};
+ghost use Rattle.std.specs.Prelude.{◌≡◌, IfOk, IsTrue, List, ℕ, Err};
 ghost use Rattle.bz_text.specs.Answers.{Gives};
 ghost use Rattle.bz_text.specs.declared.memory.Miss.TheVariants.{Because};
 ghost use Rattle.bz_label.specs.Grammar.{SpellsLabel};
 ghost use Rattle.bz_label.specs.Resolution.{Hides, Resolves, canonical_of, placed, resolved, visible};
-ghost use Rattle.bz_label.specs.Mappings.{found};
+ghost use Rattle.bz_base.specs.Labels.{IsLabel};
+ghost use Rattle.bz_label.specs.Mappings.{are_names, found};
 ghost use Rattle.bz_label.specs.declared.label_text.LabelText.{LabelText as Parts};
 
 use crate::label_text::{LabelText, RepoPart};
@@ -23,6 +24,7 @@ pub enum LabelMiss {
 pub fn resolve(alloc: Global, map: &Mapping, home: &Label, text: &str) -> May<Label, LabelMiss>
     ensures exact { Gives (resolved map.now home.now text.now) result }
     ensures label { IfOk result (λ label. Resolves map.now home.now text.now label) }
+    ensures good { IsTrue (are_names map.now) → IsLabel home.now → IfOk result IsLabel }
     ensures bad_label { result ≡ Err (Because LabelMiss.BadLabel) → (parts : Parts) → ¬ SpellsLabel text.now parts }
     ensures not_visible { (apparent : List ℕ) → result ≡ Err (Because (LabelMiss.NotVisible apparent)) → Hides map.now text.now apparent }
 {
