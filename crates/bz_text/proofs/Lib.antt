@@ -1,4 +1,5 @@
 pub mod CutLists
 pub mod CutParts
+pub mod GivenAnswers
 pub mod ListWalks
 pub mod Turns

@@ -6,7 +6,7 @@ use Rattle.bz_base.specs.declared.module_graph.Chosen.{Chosen}
 use Rattle.bz_base.specs.declared.module_graph.Graph.{Graph}
 use Rattle.bz_base.specs.declared.module_graph.GraphNode.{GraphNode}
 use Rattle.bz_base.specs.declared.module_graph.Selected.{Selected}
-use Rattle.mod_command.specs.Keys.{node_text}
+use Rattle.bz_base.specs.Keys.{node_text}
 
 -- the node of a selected module, by its place in module order
 abbrev pub node_at : List GraphNode → List Chosen → ℕ → Option GraphNode

@@ -4,11 +4,11 @@ use Rattle.bz_base.specs.declared.declarations.ModuleDecl.{ModuleDecl}
 use Rattle.bz_base.specs.declared.module_graph.Graph.{Graph}
 use Rattle.bz_base.specs.declared.module_graph.Selected.{Selected}
 use Rattle.bz_base.specs.declared.refusals.Refusal.{Refusal}
-use Rattle.mod_command.specs.Discovery.{discovered}
+use Rattle.discovery.specs.Discovery.{discovered}
 use Rattle.mod_command.specs.GraphTexts.{graph_lines}
 use Rattle.mod_command.specs.RootFiles.{root_of}
-use Rattle.mod_command.specs.Selection.{selected_of}
-use Rattle.mod_command.specs.Stopping.{Files}
+use Rattle.selection.specs.Selection.{selected_of}
+use Rattle.discovery.specs.Stopping.{Files}
 
 abbrev pub text_of_selected : Graph → Result Selected Refusal → Result (List ℕ) Refusal
 text_of_selected graph (Ok selected) = Ok (graph_lines graph selected)

@@ -5,8 +5,8 @@ use Rattle.mod_command.specs.Statuses.{done_line, line_of}
 use Rattle.mod_command.specs.declared.status.Status.{Status}
 use Rattle.mod_command.specs.declared.status.Status.TheVariants.{Done, Refused, Usage, ReadFault, WriteFault, LockStale, OutOfMemory, LockFault}
 use Rattle.mod_command.specs.declared.status.WhichSink.TheVariants as which
-use Rattle.mod_command.specs.declared.stops.Stop.{Stop}
-use Rattle.mod_command.specs.declared.stops.Stop.TheVariants as stop
+use Rattle.discovery.specs.declared.stops.Stop.{Stop}
+use Rattle.discovery.specs.declared.stops.Stop.TheVariants as stop
 
 abbrev pub status_of_stop : Stop → Status
 status_of_stop (stop.Refused refusal) = Refused refusal

@@ -5,7 +5,7 @@ use Rattle.bz_base.specs.declared.refusals.Refusal.{Refusal}
 use Rattle.bz_base.specs.declared.refusals.Code.TheVariants.{NoRoot}
 use Rattle.bz_tree.specs.declared.tree.Found.{Found}
 use Rattle.bz_tree.specs.declared.tree.Found.TheVariants.{Bytes, Large, Listing, Absent}
-use Rattle.mod_command.specs.ModuleFiles.{declared_in, form_refusal}
+use Rattle.module_file.specs.ModuleFiles.{declared_in, form_refusal}
 
 abbrev pub no_root_refusal : Refusal
 no_root_refusal = record { code = NoRoot; file = codes "<root>/MODULE.bazel"; line = 0; detail = []; hint = 0 }

@@ -1,14 +1,14 @@
 //! The text of `graph`: the root file is read, what it needs is discovered and selected, and the selected modules are written.
 ghost use Rattle.std.specs.Prelude.{◌≡◌, ◌≤◌};
 ghost use Rattle.mod_command.specs.Graphs.{graph_text_of};
-ghost use Rattle.mod_command.specs.Stopping.{GivesOver};
+ghost use Rattle.discovery.specs.Stopping.{GivesOver};
 
-use crate::discovery::discover;
+use discovery::discovery::discover;
 use crate::graph_text::write_graph;
-use crate::reading::read;
+use discovery::reading::read;
 use crate::root_file::{read_root, root_path};
-use crate::selection::select;
-use crate::stops::Stop;
+use selection::selection::select;
+use discovery::stops::Stop;
 use bz_base::Txt;
 use bz_tree::Tree;
 use std::alloc::Global;

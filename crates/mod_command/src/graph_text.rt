@@ -3,7 +3,6 @@ ghost use Rattle.std.specs.Prelude.{◌≡◌, ◌++◌, flat_map, IfOk, OnOk, s
 ghost use Rattle.std.specs.Option.{option_copied};
 ghost use Rattle.mod_command.specs.GraphTexts.{dep_line, dep_line_of, graph_lines, module_lines, module_lines_of, node_at};
 
-use crate::keys::push_node;
 use bz_base::{Chosen, Dep, Graph, GraphNode, Mem, Selected, Txt};
 use std::alloc::Global;
 
@@ -43,7 +42,7 @@ fn push_node_lines(
 ) -> Mem<()>
     ensures { OnOk result (string_bytes text.new ≡ string_bytes text.old ++ module_lines_of nodes.now modules.now chosen.now node.now) }
 {
-    push_node(text, node)?;
+    node.push_text(text)?;
     text.push_str("\n")?;
     push_deps(
         text,
@@ -90,7 +89,7 @@ fn push_dep_line(text: &mut String, apparent: &str, needed: &GraphNode) -> Mem<(
     text.push_str("  ")?;
     text.push_str(apparent)?;
     text.push_str(" -> ")?;
-    push_node(text, needed)?;
+    needed.push_text(text)?;
     Ok(text.push_str("\n")?)
 }
 

@@ -3,7 +3,7 @@ ghost use Rattle.std.specs.Prelude.{◌≡◌, IfOk, codes};
 ghost use Rattle.bz_text.specs.Answers.{Gives};
 ghost use Rattle.mod_command.specs.RootFiles.{no_root_refusal, root_of};
 
-use crate::module_file::{form, read_module};
+use module_file::declaring::{form, read_module};
 use bz_base::{Code, May, Mem, Miss, ModuleDecl, OutOfMemory, Refusal, TreePath, Txt};
 use bz_tree::Found;
 use std::alloc::Global;
@@ -33,11 +33,7 @@ pub(crate) fn read_root(alloc: Global, found: &Found) -> May<ModuleDecl, Refusal
 fn no_root(alloc: Global) -> Mem<Refusal>
     ensures { IfOk result (λ refusal. refusal ≡ no_root_refusal) }
 {
-    Ok(Refusal {
-        code: Code::NoRoot,
-        file: Txt::of(alloc, "<root>/MODULE.bazel")?,
-        line: 0,
-        detail: Txt::of_string(String::new(alloc)),
-        hint: 0,
-    })
+    let mut refusal = Refusal::of(alloc, Code::NoRoot);
+    refusal.file = Txt::of(alloc, "<root>/MODULE.bazel")?;
+    Ok(refusal)
 }

@@ -1,11 +1,11 @@
 //! The text of each command.
 ghost use Rattle.std.specs.Prelude.{◌≡◌, ◌≤◌};
 ghost use Rattle.mod_command.specs.Runs.{answer};
-ghost use Rattle.mod_command.specs.Stopping.{GivesOver};
+ghost use Rattle.discovery.specs.Stopping.{GivesOver};
 
 use crate::command::Command;
 use crate::graph::graph_text;
-use crate::stops::Stop;
+use discovery::stops::Stop;
 use bz_base::Txt;
 use bz_tree::Tree;
 use std::alloc::Global;

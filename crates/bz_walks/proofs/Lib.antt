@@ -1,0 +1,3 @@
+pub mod EachItem
+pub mod WalkLaws
+pub mod WalkSteps

@@ -1,0 +1,4 @@
+pub mod Discovery
+pub mod DiscoveryLaws
+pub mod KeySets
+pub mod Stopping

@@ -1,9 +1,0 @@
-use Rattle.std.proofs.Common.{◌≡◌, Ok, drop, map}
-use Rattle.mod_command.specs.Discovery.{ask_of, asks_of, discovery_rules, file_text}
-use Rattle.mod_command.specs.Walks.{with_asks}
-use Rattle.mod_command.proofs.discovery.with_each.Given as goal
-
--- the asks so far with those of the dependencies that are left
-abbrev pub invariant-loop-dep : goal.invariant-loop-dep
-invariant-loop-dep l =
-    with_asks discovery_rules (Ok l.known) (map (ask_of l.root (file_text l.node)) (drop l.dep-index l.node.decl.deps)) ≡ with_asks discovery_rules (Ok l.initial.known) (asks_of l.root l.node)

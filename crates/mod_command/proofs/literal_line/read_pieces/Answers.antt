@@ -1,7 +1,0 @@
-use Rattle.mod_command.proofs.LiteralPieces.{line_of_pieces-six}
-use Rattle.mod_command.proofs.literal_line.read_pieces.Goals as goal
-
-pub returns-in_default-cut-4 : goal.returns-in_default-cut-4
-returns-in_default-cut-4 c =
-    rw (c.in-Some.ensures.first, c.in-Some-cut.ensures.first, c.in-Some-cut-2.ensures.first, c.in-Some-cut-3.ensures.first, c.in_default-cut-4.ensures.first)
-    (line_of_pieces-six c.in-Some.front.now c.in-Some-cut.name.now c.in-Some-cut-2.middle.now c.in-Some-cut-3.version.now c.in_default-cut-4.field-0.0.now c.in_default-cut-4.field-0.1.now)

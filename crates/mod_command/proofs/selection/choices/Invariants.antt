@@ -1,7 +1,0 @@
-use Rattle.std.proofs.Common.{take}
-use Rattle.mod_command.specs.ChoiceTables.{HasChoices}
-use Rattle.mod_command.proofs.selection.choices.Given as goal
-
--- the choices among the nodes so far
-abbrev pub invariant-loop-place : goal.invariant-loop-place
-invariant-loop-place l = HasChoices (take l.place l.nodes) l.table.entries

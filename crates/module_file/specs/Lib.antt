@@ -1,0 +1,4 @@
+pub mod LiteralForms
+pub mod LiteralGrammar
+pub mod LiteralLines
+pub mod ModuleFiles

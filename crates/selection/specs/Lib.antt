@@ -1,0 +1,3 @@
+pub mod ChoiceTables
+pub mod Selection
+pub mod SelectionLaws
