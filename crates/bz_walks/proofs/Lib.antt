@@ -1,3 +1,5 @@
 pub mod EachItem
+pub mod Rounds
 pub mod WalkLaws
+pub mod WalkOrders
 pub mod WalkSteps

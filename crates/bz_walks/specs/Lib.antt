@@ -1,1 +1,4 @@
+pub mod RefusingRequests
+pub mod Rounds
+pub mod WalkOrders
 pub mod Walks

@@ -1,2 +1,4 @@
-//! Breadth-first walks over any asks and nodes: their definition, and what they come to.
+//! Breadth-first walks over any requests and nodes: their definition, and laws of what they come to.
 #![tactic(auto)]
+
+pub mod laws;

@@ -1,16 +1,19 @@
 //! The text of `graph`: the root file is read, what it needs is discovered and selected, and the selected modules are written.
-ghost use Rattle.std.specs.Prelude.{◌≡◌, ◌≤◌};
-ghost use Rattle.mod_command.specs.Graphs.{graph_text_of};
+ghost use Rattle.std.specs.Prelude.{◌≡◌, ◌≤◌, codes};
+ghost use Rattle.mod_command.specs.RootFiles.{root_of};
+ghost use Rattle.mod_command.specs.Graphs.{graph_text_of, text_of_selected};
+ghost use Rattle.bz_text.specs.Answers.{Gives};
+ghost use Rattle.selection.specs.Selection.{selected_of};
 ghost use Rattle.discovery.specs.Stopping.{GivesOver};
 
-use discovery::discovery::discover;
 use crate::graph_text::write_graph;
-use discovery::reading::read;
 use crate::root_file::{read_root, root_path};
-use selection::selection::select;
-use discovery::stops::Stop;
-use bz_base::Txt;
+use bz_base::{Graph, May, ModuleDecl, Refusal, Txt};
 use bz_tree::Tree;
+use discovery::discovery::discover;
+use discovery::reading::read;
+use discovery::stops::Stop;
+use selection::selection::select;
 use std::alloc::Global;
 
 /// The text of `graph` over the tree's files.
@@ -19,10 +22,30 @@ pub(crate) fn graph_text<T: Tree>(alloc: Global, tree: &mut T) -> Result<Txt, St
     ensures files_kept { T.files tree.new ≡ T.files tree.old }
     ensures count_never_falls { T.faults tree.old ≤ T.faults tree.new }
 {
+    let root = declared_root(alloc, tree)?;
+    let graph = discover(alloc, root, tree)?;
+    Ok(selected_text(alloc, graph)?)
+}
+
+/// What the root file declares.
+fn declared_root<T: Tree>(alloc: Global, tree: &mut T) -> Result<ModuleDecl, Stop>
+    ensures root { GivesOver (λ look. root_of (look (codes "MODULE.bazel"))) (T.files tree.old) (T.faults tree.old)
+        (T.faults tree.new) (T.failed tree.new) result }
+    ensures files_kept { T.files tree.new ≡ T.files tree.old }
+    ensures count_never_falls { T.faults tree.old ≤ T.faults tree.new }
+{
     let path = root_path(alloc)?;
     let found = read(alloc, tree, path)?;
-    let root = read_root(alloc, &found)?;
-    let graph = discover(alloc, root, tree)?;
-    let selected = select(alloc, &graph)?;
+    Ok(read_root(alloc, found)?)
+}
+
+/// The text of the modules that are selected of a graph.
+fn selected_text(alloc: Global, graph: Graph) -> May<Txt, Refusal>
+    ensures { Gives (text_of_selected graph (selected_of graph)) result }
+{
+    let selected = match select(alloc, &graph) {
+        Ok(selected) => selected,
+        Err(miss) => return Err(miss),
+    };
     Ok(write_graph(alloc, &graph, &selected)?)
 }

@@ -7,10 +7,10 @@ ghost use Rattle.mod_command.specs.declared.status.Status.TheVariants.{OutOfMemo
 
 use crate::report::{done_text, read_fault_text, refused_text};
 use crate::status::{Status, WhichSink};
-use discovery::stops::Stop;
 use crate::writing::write_all;
 use bz_base::{Refusal, TreePath, Txt};
 use bz_tree::Sink;
+use discovery::stops::Stop;
 use std::alloc::Global;
 
 /// Writes a line on `err`, whose failure changes no status.

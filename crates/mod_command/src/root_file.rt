@@ -3,9 +3,9 @@ ghost use Rattle.std.specs.Prelude.{◌≡◌, IfOk, codes};
 ghost use Rattle.bz_text.specs.Answers.{Gives};
 ghost use Rattle.mod_command.specs.RootFiles.{no_root_refusal, root_of};
 
-use module_file::declaring::{form, read_module};
 use bz_base::{Code, May, Mem, Miss, ModuleDecl, OutOfMemory, Refusal, TreePath, Txt};
 use bz_tree::Found;
+use module_file::declaring::{form, read_module};
 use std::alloc::Global;
 
 /// The path of the root file.
@@ -20,8 +20,8 @@ pub(crate) fn root_path(alloc: Global) -> Mem<TreePath>
 }
 
 /// What the root file declares.
-pub(crate) fn read_root(alloc: Global, found: &Found) -> May<ModuleDecl, Refusal>
-    ensures { Gives (root_of found.now) result }
+pub(crate) fn read_root(alloc: Global, found: Found) -> May<ModuleDecl, Refusal>
+    ensures { Gives (root_of found) result }
 {
     match found {
         Found::Bytes(bytes) => read_module(alloc, bytes.items()),

@@ -5,9 +5,9 @@ ghost use Rattle.discovery.specs.Stopping.{GivesOver};
 
 use crate::command::Command;
 use crate::graph::graph_text;
-use discovery::stops::Stop;
 use bz_base::Txt;
 use bz_tree::Tree;
+use discovery::stops::Stop;
 use std::alloc::Global;
 
 /// The command's text over the tree's files.
