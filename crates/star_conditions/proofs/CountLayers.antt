@@ -1,6 +1,6 @@
 -- What each construct binds, and whether its variables are counted right, by its parts.
 use Rattle.std.proofs.Common.{rules, ◌≡◌, ℕ, ℤ, List, map, Option, option_map}
-use Rattle.star_conditions.specs.Counted.{arg_in, arg_counted, clause_in, clause_tally, expr_in, expr_tally, kind_in, kind_tally, pair_in, pair_counted, stmt_in, target_in, target_tally}
+use Rattle.star_trees.specs.Counted.{arg_in, arg_counted, clause_in, clause_tally, expr_in, expr_tally, kind_in, kind_tally, pair_in, pair_counted, stmt_in, target_in, target_tally}
 use Rattle.star_trees.specs.declared.loads.Load.{Load}
 use Rattle.star_trees.specs.declared.trees.Arg as arg
 use Rattle.star_trees.specs.declared.trees.Arg.{Arg}
@@ -19,7 +19,7 @@ use Rattle.star_trees.specs.declared.trees.Target as target
 use Rattle.star_trees.specs.declared.trees.Target.{Target}
 use Rattle.star_trees.specs.declared.trees.UnOp.{UnOp}
 use Rattle.star_trees.specs.declared.trees.Var.{Var}
-use Rattle.star_names.specs.Variables.{Names}
+use Rattle.star_trees.specs.Variables.{Names}
 
 module _ (free : Names) (loads : List Load) (around : ℕ → List Names) where
   pub expr_in-Name : (variable : Var) → expr_in free loads around (e.Name variable) ≡ expr_tally free loads around (Expr-F.Expr::Name variable)

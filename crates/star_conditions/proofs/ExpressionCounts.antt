@@ -7,7 +7,7 @@ use Rattle.star_conditions.proofs.FreeUses.{Covered, Grows, Keeps, binds-keep, b
 use Rattle.star_conditions.proofs.MeaningInduction.{ArgParts, ClauseParts, ExprParts, ParamParts, PairParts, meant-arg, meant-clause, meant-expr, meant-param, meant-pair, of-expr, of-param}
 use Rattle.star_conditions.proofs.Trees.{With, bare}
 use Rattle.star_conditions.proofs.VariablesFound.{same_scopes-self, variable-counted, variable-named}
-use Rattle.star_conditions.specs.Counted.{Counted, ClauseTally, Tally, arg_in, clause_in, clauses_counted, code_counted, counted_of, each_counted, expr_in, maybe_counted, pair_in, param_tally, plain, same_scopes, target_in}
+use Rattle.star_trees.specs.Counted.{Counted, ClauseTally, Tally, arg_in, clause_in, clauses_counted, code_counted, counted_of, each_counted, expr_in, maybe_counted, pair_in, param_tally, plain, same_scopes, target_in}
 use Rattle.star_trees.specs.declared.trees.Arg.{Arg}
 use Rattle.star_trees.specs.declared.trees.Arg as arg_tree
 use Rattle.star_trees.specs.declared.trees.BinOp.{BinOp}
@@ -22,16 +22,15 @@ use Rattle.star_trees.specs.declared.files.Param.TheVariants as param_tree
 use Rattle.star_grammar.specs.declared.bare_expressions.BareArg.TheOpen.{BareArg-F, BareClause-F, BareExpr-F, BareParam-F}
 use Rattle.star_grammar.specs.declared.bare_expressions.BareExpr.{BareExpr}
 use Rattle.star_grammar.specs.declared.bare_expressions.BareParam.{BareParam}
-use Rattle.star_names.specs.Variables.{Names}
+use Rattle.star_trees.specs.Variables.{Names, variables, Binding, each_binds, name_binds, no_binding}
 use Rattle.star_scopes.specs.ExprMaking.{arg_made, clause_made, expr_made, param_made, target_made, items_made, pairs_made, args_made, params_made, targets_made, maybe_made, list_made, tuple_made, dict_made, more_clauses_made, some_clauses_made, clauses_made, list_comp_made, dict_comp_made, unary_made, binary_made, cond_made, lambda_made, lambda_code, attr_made, index_made, slice_made, call_made, index_target, many_target, named_arg_made, optional_made, pair_made, for_clause_made}
 use Rattle.star_scopes.specs.ExprMeaning.{arg_meaning, arg_step, clause_meaning, clause_step, expr_step, meaning, pair_meaning, pair_step, param_meaning, param_step}
 use Rattle.star_scopes.specs.Making.{pure, finish}
 use Rattle.star_scopes.specs.Meanings.{ArgMeaning, ClauseMeaning, ExprMeaning, PairMeaning, ParamMeaning}
-use Rattle.star_scopes.specs.Scopes.{variable, variables}
+use Rattle.star_scopes.specs.Scopes.{variable}
 use Rattle.star_trees.specs.declared.trees.ExprPair.{ExprPair}
 use Rattle.star_trees.specs.declared.trees.Target.{Target}
 use Rattle.star_trees.specs.declared.files.Param.{Param}
-use Rattle.star_scopes.specs.Bindings.{Binding, each_binds, name_binds, no_binding}
 use Rattle.star_scopes.specs.Binds.{clause_binds, param_binds, target_binds}
 use Rattle.star_scopes.specs.ExprUses.{arg_uses, args_use, call_uses, clause_uses, clauses_use, cond_uses, dict_comp_uses, expr_uses, items_use, lambda_uses, list_comp_uses, maybe_uses, pairs_use, param_uses, params_use, slice_uses, two_use}
 use Rattle.star_scopes.specs.Uses.{◌>>◌, each_uses}

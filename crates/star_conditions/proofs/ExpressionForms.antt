@@ -8,8 +8,8 @@ use Rattle.star_conditions.proofs.FormLayers as is
 use Rattle.star_conditions.proofs.FormsMade.{ParamMade, ParamsRight, all_of-zipped, arg_as, arg_formed, args-made, clause_as, clause_formed, clauses-made, formed, looped, map-zipped, params-made, some_and_all-zipped, targets-each}
 use Rattle.star_conditions.proofs.Made.{Makes, pure-makes, bind-makes, makes-also, each-makes, function-makes}
 use Rattle.star_conditions.proofs.Conditions.{ForFirst}
-use Rattle.star_conditions.specs.Orders.{ArgForm, ClauseForm, are_clauses, form_of_arg, form_of_clause, is_place, maybe_right, right_code, right_expr, right_pair, right_param, right_target}
-use Rattle.star_conditions.specs.Orders as form
+use Rattle.star_trees.specs.Orders.{ArgForm, ClauseForm, are_clauses, form_of_arg, form_of_clause, is_assignable, maybe_right, right_code, right_expr, right_pair, right_param, right_target}
+use Rattle.star_trees.specs.Orders as form
 use Rattle.star_trees.specs.declared.files.FnCode.{FnCode}
 use Rattle.star_trees.specs.declared.files.Param.{Param}
 use Rattle.star_trees.specs.declared.files.Param.TheVariants as param_tree
@@ -34,14 +34,15 @@ use Rattle.star_grammar.specs.declared.bare_expressions.BarePair.{BarePair, roll
 use Rattle.star_grammar.specs.declared.bare_expressions.BareParam as bare_param
 use Rattle.star_grammar.specs.declared.bare_expressions.BareParam.{BareParam}
 use Rattle.star_grammar.specs.Orders as grammar
-use Rattle.star_grammar.specs.Orders.{all_of, is_target, some_and_all}
-use Rattle.star_names.specs.Variables.{Names}
+use Rattle.star_trees.specs.Lists.{all_of, some_and_all}
+use Rattle.star_grammar.specs.Orders.{is_target}
+use Rattle.star_trees.specs.Variables.{Names, variables}
 use Rattle.star_scopes.specs.ExprMaking.{items_made, pairs_made, args_made, params_made, targets_made, maybe_made, list_made, tuple_made, dict_made, more_clauses_made, some_clauses_made, clauses_made, list_comp_made, dict_comp_made, unary_made, binary_made, cond_made, lambda_made, lambda_code, attr_made, index_made, slice_made, call_made, index_target, many_target, named_arg_made, optional_made, pair_made, for_clause_made}
 use Rattle.star_scopes.proofs.Layers as layer
 use Rattle.star_scopes.specs.ExprMeaning.{arg_meaning, clause_meaning, meaning, pair_meaning, param_meaning}
 use Rattle.star_scopes.specs.Making.{Making, ◌>>=◌, pure}
 use Rattle.star_scopes.specs.Meanings.{ArgMeaning, ClauseMeaning, ExprMeaning, PairMeaning, ParamMeaning}
-use Rattle.star_scopes.specs.Scopes.{variable, variables}
+use Rattle.star_scopes.specs.Scopes.{variable}
 
 -- the code of a function with no refused form
 abbrev pub RightCode : FnCode → Type 0
@@ -59,7 +60,7 @@ right test a so = pure-makes RightCode a so
 pub record ExprForm (tree : BareExpr) (m : ExprMeaning) : Type 0 where
   pub expr : (free : Names) (scopes : List Names) → MakesRight right_expr (m.expr free scopes)
   pub target : is_target tree ≡ true → (free : Names) (scopes : List Names) → MakesRight right_target (m.target free scopes)
-  pub place : grammar.is_place tree ≡ true → (free : Names) (scopes : List Names) → MakesRight is_place (m.expr free scopes)
+  pub place : grammar.is_place tree ≡ true → (free : Names) (scopes : List Names) → MakesRight is_assignable (m.expr free scopes)
 
 pub record ArgFormed (tree : BareArg) (m : ArgMeaning) : Type 0 where
   pub arg : (free : Names) (scopes : List Names) → Makes RightCode (λ made. form_of_arg made ≡ arg_as tree) (m.arg free scopes)
@@ -212,12 +213,12 @@ module _ (free : Names) (scopes : List Names) where
       bind-makes RightCode (also.expr free scopes) (λ made_at two.
       right _ (e.Index made made_at) (is.right_expr-Index made made_at ∙ and_from _ _ one two)))
 
-  index_place-right : (container at : BareExpr) → ExprRight container → ExprRight at → MakesRight is_place (index_made free scopes (meaning container) (meaning at))
+  index_place-right : (container at : BareExpr) → ExprRight container → ExprRight at → MakesRight is_assignable (index_made free scopes (meaning container) (meaning at))
   unfolding index_made
   index_place-right container at so also =
       bind-makes RightCode (so.expr free scopes) (λ made one.
       bind-makes RightCode (also.expr free scopes) (λ made_at two.
-      right _ (e.Index made made_at) (is.is_place-Index made made_at)))
+      right _ (e.Index made made_at) (is.is_assignable-Index made made_at)))
 
   slice-right : (container : BareExpr) (begin end step : Option BareExpr) → ExprRight container → IfSome begin ExprRight → IfSome end ExprRight → IfSome step ExprRight → MakesRight right_expr (slice_made free scopes (meaning container) (option_map meaning begin) (option_map meaning end) (option_map meaning step))
   unfolding slice_made
@@ -278,7 +279,7 @@ pub name-formed : (name : BareName) → ExprRight (bare.Name name)
 name-formed name = subst (ExprForm (bare.Name name)) (sym (layer.meaning-Name name)) (record {
   expr = λ free scopes. right _ (e.Name (variable free scopes name.name)) (is.right_expr-Name (variable free scopes name.name));
   target = λ are free scopes. right _ (target_tree.Name (variable free scopes name.name)) (is.right_target-Name (variable free scopes name.name));
-  place = λ are free scopes. right _ (e.Name (variable free scopes name.name)) (is.is_place-Name (variable free scopes name.name));
+  place = λ are free scopes. right _ (e.Name (variable free scopes name.name)) (is.is_assignable-Name (variable free scopes name.name));
 })
 
 pub bracketed-formed : (inside : BareExpr) → ExprRight inside → ExprRight (bare.Bracketed inside)

@@ -6,8 +6,8 @@ use Rattle.star_conditions.proofs.ExpressionPlaces.{of_each}
 use Rattle.star_conditions.proofs.Made.{Makes, pure-makes, bind-makes, makes-also, each-makes, function-makes}
 use Rattle.star_conditions.proofs.NestingLayers as is
 use Rattle.star_conditions.proofs.Conditions.{ForFirst}
-use Rattle.star_conditions.specs.Nesting.{depth_of_arg, depth_of_clause, depth_of_code, depth_of_expr, depth_of_pair, depth_of_param, depth_of_target}
-use Rattle.star_conditions.specs.Places.{greatest, number_or_zero}
+use Rattle.star_trees.specs.Nesting.{depth_of_arg, depth_of_clause, depth_of_code, depth_of_expr, depth_of_pair, depth_of_param, depth_of_target}
+use Rattle.star_trees.specs.Indexes.{greatest, number_or_zero}
 use Rattle.star_trees.specs.declared.trees.Arg as arg_tree
 use Rattle.star_trees.specs.declared.trees.BinOp.{BinOp}
 use Rattle.star_trees.specs.declared.trees.Clause as clause_tree
@@ -30,13 +30,13 @@ use Rattle.star_grammar.specs.declared.bare_expressions.BarePair.{BarePair, roll
 use Rattle.star_grammar.specs.declared.bare_expressions.BareParam as bare_param
 use Rattle.star_grammar.specs.declared.bare_expressions.BareParam.{BareParam}
 use Rattle.star_grammar.specs.Orders.{are_args, are_params}
-use Rattle.star_names.specs.Variables.{Names}
+use Rattle.star_trees.specs.Variables.{Names, variables}
 use Rattle.star_scopes.specs.ExprMaking.{items_made, pairs_made, args_made, params_made, targets_made, maybe_made, list_made, tuple_made, dict_made, more_clauses_made, some_clauses_made, clauses_made, list_comp_made, dict_comp_made, unary_made, binary_made, cond_made, lambda_made, lambda_code, attr_made, index_made, slice_made, call_made, index_target, many_target, named_arg_made, optional_made, pair_made, for_clause_made}
 use Rattle.star_scopes.proofs.Layers as layer
 use Rattle.star_scopes.specs.ExprMeaning.{arg_meaning, clause_meaning, meaning, pair_meaning, pair_step, param_meaning}
 use Rattle.star_scopes.specs.Making.{Making, ◌>>=◌, pure, each}
 use Rattle.star_scopes.specs.Meanings.{ArgMeaning, ClauseMeaning, ExprMeaning, PairMeaning, ParamMeaning}
-use Rattle.star_scopes.specs.Scopes.{variable, variables}
+use Rattle.star_scopes.specs.Scopes.{variable}
 
 -- the code of a function that is not too deep
 abbrev pub Shallow : FnCode → Type 0

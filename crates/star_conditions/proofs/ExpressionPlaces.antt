@@ -4,7 +4,7 @@ use Rattle.star_conditions.proofs.PlacesMade.{Good, bind-good, then, done, each-
 use Rattle.star_conditions.proofs.PlaceLayers as is
 use Rattle.star_conditions.proofs.MeaningInduction.{ArgParts, ClauseParts, ExprParts, ParamParts, PairParts, meant-arg, meant-clause, meant-expr, meant-pair, meant-param, of-expr, of-param}
 use Rattle.star_conditions.proofs.Trees.{With, bare}
-use Rattle.star_conditions.specs.Places.{greatest, number_or_zero, functions_of_arg, functions_of_clause, functions_of_expr, functions_of_pair, functions_of_param, functions_of_target}
+use Rattle.star_trees.specs.Indexes.{greatest, number_or_zero, functions_of_arg, functions_of_clause, functions_of_expr, functions_of_pair, functions_of_param, functions_of_target}
 use Rattle.star_trees.specs.declared.trees.Arg as arg_tree
 use Rattle.star_trees.specs.declared.trees.BinOp.{BinOp}
 use Rattle.star_trees.specs.declared.trees.Clause as clause_tree
@@ -17,12 +17,12 @@ use Rattle.star_trees.specs.declared.files.Param.TheVariants as param_tree
 use Rattle.star_grammar.specs.declared.bare_expressions.BareArg.TheOpen.{BareArg-F, BareClause-F, BareExpr-F, BareParam-F}
 use Rattle.star_grammar.specs.declared.bare_expressions.BareExpr.{BareExpr}
 use Rattle.star_grammar.specs.declared.bare_expressions.BareParam.{BareParam}
-use Rattle.star_names.specs.Variables.{Names}
+use Rattle.star_trees.specs.Variables.{Names, variables}
 use Rattle.star_scopes.specs.ExprMaking.{arg_made, clause_made, expr_made, param_made, target_made, items_made, pairs_made, args_made, params_made, targets_made, maybe_made, list_made, tuple_made, dict_made, more_clauses_made, some_clauses_made, clauses_made, list_comp_made, dict_comp_made, unary_made, binary_made, cond_made, lambda_made, lambda_code, attr_made, index_made, slice_made, call_made, index_target, many_target, named_arg_made, optional_made, pair_made, for_clause_made}
 use Rattle.star_scopes.specs.ExprMeaning.{arg_meaning, arg_step, clause_meaning, clause_step, expr_step, meaning, pair_meaning, pair_step, param_meaning, param_step}
 use Rattle.star_scopes.specs.Making.{pure, finish}
 use Rattle.star_scopes.specs.Meanings.{ArgMeaning, ClauseMeaning, ExprMeaning, PairMeaning, ParamMeaning}
-use Rattle.star_scopes.specs.Scopes.{variable, variables}
+use Rattle.star_scopes.specs.Scopes.{variable}
 
 -- ---- meanings whose makings are always fine
 

@@ -4,14 +4,13 @@ use Rattle.star_conditions.proofs.CountsMade.{Whole, all-bound, all-fit, known_o
 use Rattle.star_conditions.proofs.FreeUses.{Bounded, Covered, within-self}
 use Rattle.star_conditions.proofs.StatementCounts.{all-sound}
 use Rattle.star_conditions.proofs.StatementPlaces.{all-fine}
-use Rattle.star_conditions.specs.Counted.{VariablesAreCounted, all_counted, stmt_in}
-use Rattle.star_conditions.specs.Places.{PlacesAreThere}
+use Rattle.star_trees.specs.Counted.{VariablesAreCounted, all_counted, stmt_in}
+use Rattle.star_trees.specs.Indexes.{IndexesAreThere}
 use Rattle.star_trees.specs.declared.files.File.{File}
 use Rattle.star_grammar.specs.declared.bare_statements.BareStmt.{BareStmt}
-use Rattle.star_names.specs.Variables.{Names}
+use Rattle.star_trees.specs.Variables.{Names, variables}
 use Rattle.star_scopes.specs.declared.dialects.Dialect.{Dialect}
 use Rattle.star_scopes.specs.declared.unbound.Unbound.{Unbound}
-use Rattle.star_scopes.specs.Scopes.{variables}
 use Rattle.star_scopes.specs.StatementBinds.{body_binds}
 use Rattle.star_scopes.specs.StatementMaking.{body_made}
 use Rattle.star_scopes.specs.StatementMeaning.{stmt_meaning}
@@ -19,8 +18,8 @@ use Rattle.star_scopes.specs.StatementUses.{body_uses}
 use Rattle.star_scopes.specs.Meanings.{StmtMeaning}
 use Rattle.star_scopes.specs.Files.{file_scopes, file_with, free_names, no_lists, resolved, with_free}
 
-file_with-places : (free : Names) (body : List BareStmt) → PlacesAreThere (file_with free body)
-file_with-places free body =
+file_with-indexes : (free : Names) (body : List BareStmt) → IndexesAreThere (file_with free body)
+file_with-indexes free body =
     let fine = all-fine free (file_scopes body) body no_lists (omega arith) (omega arith) in
     record {
       body_functions = fine.value_functions;
@@ -29,12 +28,12 @@ file_with-places free body =
       code_loads = fine.code_loads _ (le_refl _) (omega arith);
     }
 
-with_free-places : (body : List BareStmt) (free : Result Names Unbound) (file : File) → with_free body free ≡ Ok file → PlacesAreThere file
-with_free-places body (Ok free) file is = subst (λ result. IfOk result PlacesAreThere) is (file_with-places free body)
-with_free-places body (Err unbound) file is = subst (λ result. IfOk result PlacesAreThere) is tt
+with_free-indexes : (body : List BareStmt) (free : Result Names Unbound) (file : File) → with_free body free ≡ Ok file → IndexesAreThere file
+with_free-indexes body (Ok free) file is = subst (λ result. IfOk result IndexesAreThere) is (file_with-indexes free body)
+with_free-indexes body (Err unbound) file is = subst (λ result. IfOk result IndexesAreThere) is tt
 
-pub resolved-places : (dialect : Dialect) (body : List BareStmt) (file : File) → resolved dialect body ≡ Ok file → PlacesAreThere file
-resolved-places dialect body file is = with_free-places body (free_names dialect body) file is
+pub resolved-indexes : (dialect : Dialect) (body : List BareStmt) (file : File) → resolved dialect body ≡ Ok file → IndexesAreThere file
+resolved-indexes dialect body file is = with_free-indexes body (free_names dialect body) file is
 
 file_with-variables : (dialect : Dialect) (free : Names) (body : List BareStmt) → free_names dialect body ≡ Ok free → VariablesAreCounted (file_with free body)
 file_with-variables dialect free body gathers =

@@ -9,16 +9,16 @@ use Rattle.star_conditions.proofs.Conditions.{Conditions, ExpressionsKeep, State
 use Rattle.star_conditions.proofs.SpelledStatements.{IsFile-held}
 use Rattle.star_conditions.proofs.StatementForms as statement
 use Rattle.star_conditions.proofs.StatementForms.{StmtRight, body-right, on_line-right}
-use Rattle.star_conditions.specs.Orders.{HasNoRefusedForm, right_code}
+use Rattle.star_trees.specs.Orders.{HasNoRefusedForm, right_code}
 use Rattle.star_trees.specs.declared.files.File.{File}
 use Rattle.star_trees.specs.declared.trees.StmtKind as st
 use Rattle.star_grammar.specs.declared.bare_statements.BareFile.{BareFile}
 use Rattle.star_grammar.specs.declared.bare_statements.BareStmt.{BareStmt}
-use Rattle.star_grammar.specs.Orders.{all_of}
-use Rattle.star_grammar.specs.Statements.{at_top}
+use Rattle.star_trees.specs.Lists.{all_of}
+use Rattle.star_trees.specs.Surroundings.{at_top}
 use Rattle.star_grammar.specs.Symbols.{symbols_of}
 use Rattle.star_grammar.specs.Texts.{Spelled}
-use Rattle.star_names.specs.Variables.{Names}
+use Rattle.star_trees.specs.Variables.{Names}
 use Rattle.star_scopes.proofs.StatementLayers as layer
 use Rattle.star_scopes.specs.declared.dialects.Dialect.{Dialect}
 use Rattle.star_scopes.specs.declared.unbound.Unbound.{Unbound}

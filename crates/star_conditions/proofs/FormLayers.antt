@@ -1,6 +1,6 @@
 -- The form of a tree of each construct, by the form of its parts.
 use Rattle.std.proofs.Common.{rules, ◌≡◌, ℕ, ℤ, true, false, ◌&&◌, List, map, Option, Some, None, option_map}
-use Rattle.star_conditions.specs.Orders.{all_stand, are_args, are_clauses, form_of_arg, form_of_clause, is_place, maybe_right, right_expr, right_pair, right_target, stands, stands_as}
+use Rattle.star_trees.specs.Orders.{all_stand, are_args, are_clauses, form_of_arg, form_of_clause, is_assignable, maybe_right, right_expr, right_pair, right_target, stands, stands_as}
 use Rattle.star_trees.specs.declared.trees.Arg as arg
 use Rattle.star_trees.specs.declared.trees.Arg.{Arg}
 use Rattle.star_trees.specs.declared.trees.BinOp.{BinOp}
@@ -16,9 +16,9 @@ use Rattle.star_trees.specs.declared.trees.Target as target
 use Rattle.star_trees.specs.declared.trees.Target.{Target}
 use Rattle.star_trees.specs.declared.trees.UnOp.{UnOp}
 use Rattle.star_trees.specs.declared.trees.Var.{Var}
-use Rattle.star_grammar.specs.declared.bare_statements.Inside.{Inside}
-use Rattle.star_grammar.specs.Orders.{all_of, some_and_all}
-use Rattle.star_grammar.specs.Statements.{in_branch, in_loop}
+use Rattle.star_trees.specs.declared.inside.Inside.{Inside}
+use Rattle.star_trees.specs.Lists.{all_of, some_and_all}
+use Rattle.star_trees.specs.Surroundings.{in_branch, in_loop}
 
 pub right_expr-Name : (variable : Var) → right_expr (e.Name variable) ≡ true
 unfolding form_of_arg form_of_clause right_expr right_pair right_target
@@ -160,7 +160,7 @@ pub stands_as-Assign : (to : Target) (value : Expr) (inside : Inside) → stands
 unfolding stands_as stands
 stands_as-Assign to value inside = search (rules, st.the_lemmas)
 
-pub stands_as-Augment : (place : Expr) (op : BinOp) (value : Expr) (inside : Inside) → stands_as (st.Augment place op value) inside ≡ (is_place place && (right_expr place && right_expr value))
+pub stands_as-Augment : (place : Expr) (op : BinOp) (value : Expr) (inside : Inside) → stands_as (st.Augment place op value) inside ≡ (is_assignable place && (right_expr place && right_expr value))
 unfolding stands_as stands
 stands_as-Augment place op value inside = search (rules, st.the_lemmas)
 
@@ -172,10 +172,10 @@ pub stands-roll : (line : ℕ) (kind : StmtKind) (inside : Inside) → stands (r
 unfolding stands_as stands
 stands-roll line kind inside = search (rules, st.the_lemmas)
 
-pub is_place-Name : (variable : Var) → is_place (e.Name variable) ≡ true
-unfolding is_place
-is_place-Name variable = search (rules, the_lemmas)
+pub is_assignable-Name : (variable : Var) → is_assignable (e.Name variable) ≡ true
+unfolding is_assignable
+is_assignable-Name variable = search (rules, the_lemmas)
 
-pub is_place-Index : (container at : Expr) → is_place (e.Index container at) ≡ true
-unfolding is_place
-is_place-Index container at = search (rules, the_lemmas)
+pub is_assignable-Index : (container at : Expr) → is_assignable (e.Index container at) ≡ true
+unfolding is_assignable
+is_assignable-Index container at = search (rules, the_lemmas)

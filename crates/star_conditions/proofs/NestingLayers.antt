@@ -1,7 +1,7 @@
 -- How deep a tree of each construct is, by how deep its parts are.
 use Rattle.std.proofs.Common.{rules, ◌≡◌, ℕ, ◌+◌, ℤ, max, List, map, Option, option_map}
-use Rattle.star_conditions.specs.Nesting.{depth_of_arg, depth_of_clause, depth_of_expr, depth_of_kind, depth_of_pair, depth_of_stmt, depth_of_target}
-use Rattle.star_conditions.specs.Places.{greatest, number_or_zero}
+use Rattle.star_trees.specs.Nesting.{depth_of_arg, depth_of_clause, depth_of_expr, depth_of_kind, depth_of_pair, depth_of_stmt, depth_of_target}
+use Rattle.star_trees.specs.Indexes.{greatest, number_or_zero}
 use Rattle.star_trees.specs.declared.trees.Arg as arg
 use Rattle.star_trees.specs.declared.trees.Arg.{Arg}
 use Rattle.star_trees.specs.declared.trees.BinOp.{BinOp}

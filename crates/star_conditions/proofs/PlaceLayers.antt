@@ -1,6 +1,6 @@
 -- The places in a tree of each construct, by those in its parts.
 use Rattle.std.proofs.Common.{rules, ◌≡◌, ℕ, ◌+◌, ℤ, max, List, map, Option, option_map}
-use Rattle.star_conditions.specs.Places.{greatest, number_or_zero, functions_of_arg, functions_of_clause, functions_of_expr, functions_of_kind, functions_of_pair, functions_of_stmt, functions_of_target, loads_of_kind, loads_of_stmt}
+use Rattle.star_trees.specs.Indexes.{greatest, number_or_zero, functions_of_arg, functions_of_clause, functions_of_expr, functions_of_kind, functions_of_pair, functions_of_stmt, functions_of_target, loads_of_kind, loads_of_stmt}
 use Rattle.star_trees.specs.declared.trees.Arg as arg
 use Rattle.star_trees.specs.declared.trees.Arg.{Arg}
 use Rattle.star_trees.specs.declared.trees.BinOp.{BinOp}

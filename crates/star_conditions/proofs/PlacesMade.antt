@@ -1,10 +1,11 @@
 -- What is made, when the functions and the loads so far are at least so many.
 use Rattle.std.proofs.Common.{ℕ, zero, suc, ◌+◌, ◌≤◌, List, [], ◌∷◌, length, map, set, ◌++◌, arith, le_refl, le_trans, length-append, length-set}
-use Rattle.star_conditions.specs.Places.{greatest, functions_of_code, loads_of_code}
+use Rattle.star_trees.specs.Indexes.{greatest, functions_of_code, loads_of_code}
 use Rattle.star_conditions.proofs.Trees.{Lists}
 use Rattle.star_trees.specs.declared.files.FnCode.{FnCode}
 use Rattle.star_trees.specs.declared.loads.Load.{Load}
-use Rattle.star_scopes.specs.Making.{Making, ◌>>=◌, pure, each, begin, begun, finish, load}
+use Rattle.star_scopes.specs.Making.{Making, ◌>>=◌, pure, each, begin, finish, load}
+use Rattle.star_trees.specs.Functions.{unfinished_code}
 
 -- what holds after a value is made: the lists don't shrink, the value speaks of what is there, and so do the functions' codes where they did before
 pub record Fine {A : Type 0} (functions : A → ℕ) (loads : A → ℕ) (before : Lists) (made : A × Lists) : Type 0 where
@@ -89,14 +90,14 @@ greatest-set f k (y ∷ xs) (suc i) x all one = let more = greatest-set f k xs i
 
 pub begin-good : (n m : ℕ) → Good n m (λ place. place + 1) none begin
 begin-good n m lists enough enough_loads =
-    let more = length-append lists.functions (begun ∷ []) in
+    let more = length-append lists.functions (unfinished_code ∷ []) in
     record {
       functions_grow = omega (arith, more);
       loads_grow = le_refl _;
       value_functions = omega (arith, more);
       value_loads = omega arith;
-      code_functions = λ k above so. greatest-behind functions_of_code k lists.functions begun so (omega arith);
-      code_loads = λ k above so. greatest-behind loads_of_code k lists.functions begun so (omega arith);
+      code_functions = λ k above so. greatest-behind functions_of_code k lists.functions unfinished_code so (omega arith);
+      code_loads = λ k above so. greatest-behind loads_of_code k lists.functions unfinished_code so (omega arith);
     }
 
 pub finish-good : (n m place : ℕ) (code : FnCode) → functions_of_code code ≤ n → loads_of_code code ≤ m → Good n m none none (finish place code)

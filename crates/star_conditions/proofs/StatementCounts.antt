@@ -8,8 +8,8 @@ use Rattle.star_conditions.proofs.FreeUses.{Bounded, Covered, Grows, Keeps, bind
 use Rattle.star_conditions.proofs.MeaningInduction.{KindParts, StmtParts, meant-kind, meant-stmt, of-stmt}
 use Rattle.star_conditions.proofs.Trees.{With, bare}
 use Rattle.star_conditions.proofs.VariablesFound.{same_scopes-self, variable-counted, variable-named}
-use Rattle.star_conditions.specs.Counted as counted
-use Rattle.star_conditions.specs.Counted.{Tally, all_counted, bound_of, code_counted, expr_in, kind_in, no_load, param_tally, same_scopes, stmt_in, variable_counted}
+use Rattle.star_trees.specs.Counted as counted
+use Rattle.star_trees.specs.Counted.{Tally, all_counted, bound_of, code_counted, expr_in, kind_in, no_load, param_tally, same_scopes, stmt_in, variable_counted}
 use Rattle.star_trees.specs.declared.loads.Load.{Load}
 use Rattle.star_trees.specs.declared.trees.BinOp.{BinOp}
 use Rattle.star_trees.specs.declared.trees.Stmt.{Stmt, roll-Stmt}
@@ -21,14 +21,14 @@ use Rattle.star_grammar.specs.declared.bare_expressions.BareParam.{BareParam}
 use Rattle.star_grammar.specs.declared.bare_statements.BareLoadName.{BareLoadName}
 use Rattle.star_grammar.specs.declared.bare_statements.BareStmt.{BareStmt}
 use Rattle.star_grammar.specs.declared.bare_statements.BareStmtKind.TheOpen.{BareStmtKind-F}
-use Rattle.star_names.specs.Variables.{Names}
-use Rattle.star_scopes.specs.Bindings.{each_binds, loaded_binds, name_binds, no_binding}
+use Rattle.star_trees.specs.Variables.{Names, each_binds, name_binds, no_binding, function_variables}
+use Rattle.star_scopes.specs.Bindings.{loaded_binds}
 use Rattle.star_scopes.specs.ExprMaking.{params_made}
 use Rattle.star_scopes.specs.ExprMeaning.{meaning, param_meaning}
 use Rattle.star_scopes.specs.ExprUses.{params_use, two_use}
 use Rattle.star_scopes.specs.Making.{pure, finish}
 use Rattle.star_scopes.specs.Meanings.{KindMeaning, ParamMeaning, StmtMeaning}
-use Rattle.star_scopes.specs.Scopes.{function_variables, variable}
+use Rattle.star_scopes.specs.Scopes.{variable}
 use Rattle.star_scopes.specs.StatementBinds.{body_binds, kind_binds}
 use Rattle.star_scopes.specs.StatementMaking.{def_code, load_of, load_made, body_made, if_made, for_made, return_made, assign_made, augment_made, value_made, def_made, kind_made, stmt_made}
 use Rattle.star_scopes.specs.StatementMeaning.{kind_meaning, kind_step, stmt_meaning, stmt_step}

@@ -7,7 +7,7 @@ use Rattle.star_conditions.proofs.FormLayers as is
 use Rattle.star_conditions.proofs.FormsMade.{ParamsRight}
 use Rattle.star_conditions.proofs.Made.{pure-makes, bind-makes, makes-also, makes-both, each-makes, function-makes, load-makes}
 use Rattle.star_conditions.proofs.StatementNesting.{stmt_meaning-roll}
-use Rattle.star_conditions.specs.Orders.{all_stand, stands, stands_as}
+use Rattle.star_trees.specs.Orders.{all_stand, stands, stands_as}
 use Rattle.star_trees.specs.declared.files.Param.{Param}
 use Rattle.star_trees.specs.declared.trees.BinOp.{BinOp}
 use Rattle.star_trees.specs.declared.trees.Stmt.{Stmt, roll-Stmt}
@@ -18,16 +18,17 @@ use Rattle.star_grammar.specs.declared.bare_expressions.BareParam.{BareParam}
 use Rattle.star_grammar.specs.declared.bare_statements.BareLoadName.{BareLoadName}
 use Rattle.star_grammar.specs.declared.bare_statements.BareStmt.{BareStmt}
 use Rattle.star_grammar.specs.declared.bare_statements.BareStmtKind.{BareStmtKind}
-use Rattle.star_grammar.specs.declared.bare_statements.Inside.{Inside}
+use Rattle.star_trees.specs.declared.inside.Inside.{Inside}
 use Rattle.star_grammar.specs.Orders as grammar
 use Rattle.star_grammar.specs.Orders.{is_target}
-use Rattle.star_grammar.specs.Statements.{on_line, in_branch, in_function, in_loop}
-use Rattle.star_names.specs.Variables.{Names}
+use Rattle.star_grammar.specs.Statements.{on_line}
+use Rattle.star_trees.specs.Surroundings.{in_branch, in_function, in_loop}
+use Rattle.star_trees.specs.Variables.{Names, function_variables}
 use Rattle.star_scopes.specs.ExprMaking.{params_made}
 use Rattle.star_scopes.specs.ExprMeaning.{param_meaning}
 use Rattle.star_scopes.specs.Making.{Making, ◌>>=◌, pure}
 use Rattle.star_scopes.specs.Meanings.{KindMeaning, StmtMeaning}
-use Rattle.star_scopes.specs.Scopes.{function_variables, variable}
+use Rattle.star_scopes.specs.Scopes.{variable}
 use Rattle.star_scopes.specs.StatementMaking.{def_code, load_of, load_made, body_made, if_made, for_made, return_made, assign_made, augment_made, value_made, def_made, stmt_made}
 use Rattle.star_scopes.specs.StatementMeaning.{kind_meaning, stmt_meaning}
 

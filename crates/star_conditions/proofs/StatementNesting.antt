@@ -4,7 +4,7 @@ use Rattle.star_conditions.proofs.ExpressionNesting.{Shallow, MakesWithin, withi
 use Rattle.star_conditions.proofs.ExpressionPlaces.{of_each}
 use Rattle.star_conditions.proofs.Made.{bind-makes, function-makes, load-makes}
 use Rattle.star_conditions.proofs.NestingLayers as is
-use Rattle.star_conditions.specs.Nesting.{depth_of_kind, depth_of_param, depth_of_stmt}
+use Rattle.star_trees.specs.Nesting.{depth_of_kind, depth_of_param, depth_of_stmt}
 use Rattle.star_trees.specs.declared.trees.BinOp.{BinOp}
 use Rattle.star_trees.specs.declared.files.Param.{Param}
 use Rattle.star_trees.specs.declared.trees.Stmt.{Stmt, roll-Stmt}
@@ -17,13 +17,13 @@ use Rattle.star_grammar.specs.declared.bare_statements.BareStmt.{BareStmt, roll-
 use Rattle.star_grammar.specs.declared.bare_statements.BareStmtKind as bare
 use Rattle.star_grammar.specs.declared.bare_statements.BareStmtKind.{BareStmtKind, the_lemmas}
 use Rattle.star_grammar.specs.Statements.{on_line}
-use Rattle.star_names.specs.Variables.{Names}
+use Rattle.star_trees.specs.Variables.{Names, function_variables}
 use Rattle.star_scopes.proofs.StatementLayers as layer
 use Rattle.star_scopes.specs.ExprMaking.{params_made}
 use Rattle.star_scopes.specs.ExprMeaning.{param_meaning}
 use Rattle.star_scopes.specs.Making.{Making, ◌>>=◌, pure}
 use Rattle.star_scopes.specs.Meanings.{KindMeaning, StmtMeaning}
-use Rattle.star_scopes.specs.Scopes.{function_variables, variable}
+use Rattle.star_scopes.specs.Scopes.{variable}
 use Rattle.star_scopes.specs.StatementMaking.{def_code, load_of, load_made, body_made, if_made, for_made, return_made, assign_made, augment_made, value_made, def_made, stmt_made}
 use Rattle.star_scopes.specs.StatementMeaning.{kind_meaning, stmt_meaning, stmt_step}
 

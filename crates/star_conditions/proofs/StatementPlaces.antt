@@ -5,7 +5,7 @@ use Rattle.star_conditions.proofs.MeaningInduction.{KindParts, StmtParts, meant-
 use Rattle.star_conditions.proofs.Trees.{With, bare}
 use Rattle.star_conditions.proofs.PlacesMade.{Good, pure-good, bind-good, then, each-good, each-sure, begin-good, finish-good, load-good, none}
 use Rattle.star_conditions.proofs.PlaceLayers as is
-use Rattle.star_conditions.specs.Places.{functions_of_kind, functions_of_param, functions_of_stmt, loads_of_kind, loads_of_stmt}
+use Rattle.star_trees.specs.Indexes.{functions_of_kind, functions_of_param, functions_of_stmt, loads_of_kind, loads_of_stmt}
 use Rattle.star_trees.specs.declared.trees.BinOp.{BinOp}
 use Rattle.star_trees.specs.declared.trees.Stmt.{roll-Stmt}
 use Rattle.star_trees.specs.declared.trees.StmtKind.{StmtKind}
@@ -16,12 +16,12 @@ use Rattle.star_grammar.specs.declared.bare_expressions.BareParam.{BareParam}
 use Rattle.star_grammar.specs.declared.bare_statements.BareLoadName.{BareLoadName}
 use Rattle.star_grammar.specs.declared.bare_statements.BareStmt.{BareStmt}
 use Rattle.star_grammar.specs.declared.bare_statements.BareStmtKind.TheOpen.{BareStmtKind-F}
-use Rattle.star_names.specs.Variables.{Names}
+use Rattle.star_trees.specs.Variables.{Names, function_variables}
 use Rattle.star_scopes.specs.ExprMaking.{params_made}
 use Rattle.star_scopes.specs.ExprMeaning.{param_meaning}
 use Rattle.star_scopes.specs.Making.{pure, finish}
 use Rattle.star_scopes.specs.Meanings.{KindMeaning, StmtMeaning}
-use Rattle.star_scopes.specs.Scopes.{function_variables, variable}
+use Rattle.star_scopes.specs.Scopes.{variable}
 use Rattle.star_scopes.specs.StatementMaking.{def_code, load_of, load_made, body_made, if_made, for_made, return_made, assign_made, augment_made, value_made, def_made, kind_made, stmt_made}
 use Rattle.star_scopes.specs.StatementMeaning.{kind_meaning, kind_step, stmt_meaning, stmt_step}
 

@@ -11,7 +11,7 @@ use Rattle.star_grammar.specs.declared.bare_statements.BareLoadName.{BareLoadNam
 use Rattle.star_grammar.specs.declared.bare_statements.BareStmt.{BareStmt}
 use Rattle.star_grammar.specs.declared.bare_statements.BareStmtKind as st
 use Rattle.star_grammar.specs.declared.bare_statements.BareStmtKind.{BareStmtKind}
-use Rattle.star_grammar.specs.declared.bare_statements.Inside.{Inside}
+use Rattle.star_trees.specs.declared.inside.Inside.{Inside}
 use Rattle.star_grammar.specs.declared.bare_statements.Part.{Part}
 use Rattle.star_grammar.specs.declared.bare_statements.Part.TheVariants as part
 use Rattle.star_grammar.specs.Expressions.{Tree}
@@ -20,7 +20,8 @@ use Rattle.star_grammar.specs.Operators as operators
 use Rattle.star_grammar.specs.Orders.{are_params, is_place, is_target}
 use Rattle.star_grammar.specs.Readers.{Reader, ◌>>=◌, ◌>>◌, pure, refuse, given, checked, sees, behind, sees_word, front_of, skip, eat, expect, name, text, closed, turns, one, adds, joins, more}
 use Rattle.star_grammar.specs.Rules.{Deep, deep, front_line}
-use Rattle.star_grammar.specs.Statements.{Statements, on_line, at_top, in_branch, in_loop, in_function}
+use Rattle.star_grammar.specs.Statements.{Statements, on_line}
+use Rattle.star_trees.specs.Surroundings.{at_top, in_branch, in_loop, in_function}
 
 -- ---- loads
 

@@ -13,13 +13,14 @@ use Rattle.star_grammar.specs.declared.bare_statements.BareLoadName.{BareLoadNam
 use Rattle.star_grammar.specs.declared.bare_statements.BareStmt.{BareStmt, roll-BareStmt}
 use Rattle.star_grammar.specs.declared.bare_statements.BareStmtKind as st
 use Rattle.star_grammar.specs.declared.bare_statements.BareStmtKind.{BareStmtKind}
-use Rattle.star_grammar.specs.declared.bare_statements.Inside.{Inside}
+use Rattle.star_trees.specs.declared.inside.Inside.{Inside}
 use Rattle.star_grammar.specs.declared.bare_statements.Part.{Part}
 use Rattle.star_grammar.specs.declared.bare_statements.Part.TheVariants as part
 use Rattle.star_grammar.specs.Expressions.{Tree, Expression, Vars, Param, Spells}
 use Rattle.star_grammar.specs.Operators.{augmented}
 use Rattle.star_grammar.specs.Orders.{are_params, is_place, is_target}
 use Rattle.star_grammar.specs.Rules.{Rule, sign, word, string, front_line, Deep, deep, Repeated, Nothing, One, Adds, Joins, After, Series, Closed, Listed}
+use Rattle.star_trees.specs.Surroundings.{at_top, in_branch, in_function, in_loop}
 
 abbrev pub Statements : Type 0
 Statements = Deep (List BareStmt)
@@ -27,20 +28,6 @@ Statements = Deep (List BareStmt)
 -- a statement on a line
 abbrev pub on_line : ℕ → BareStmtKind → BareStmt
 on_line line kind = roll-BareStmt (record { line = line; kind = kind })
-
--- ---- where `break`, `continue`, `return` and `load` may stand
-
-abbrev pub at_top : Inside
-at_top = record { top = true; function = false; looping = false }
-
-abbrev pub in_branch : Inside → Inside
-in_branch inside = record { top = false; function = inside.function; looping = inside.looping }
-
-abbrev pub in_loop : Inside → Inside
-in_loop inside = record { top = false; function = inside.function; looping = true }
-
-abbrev pub in_function : Inside
-in_function = record { top = false; function = true; looping = false }
 
 -- ---- small statements
 

@@ -1,8 +1,7 @@
 -- Lists, walked item by item.
 use Rattle.std.proofs.Common.{◌≡◌, ℕ, suc, ◌+◌, ◌<◌, List, [], ◌∷◌, ◌++◌, length, get_or, drop, map, ap, sym, ◌∙◌, add-one, drop-cons}
 use Rattle.std.proofs.lemmas.List.{append_assoc}
-use Rattle.star_names.specs.Variables.{Names}
-use Rattle.star_scopes.specs.Bindings.{Binding, each_binds}
+use Rattle.star_trees.specs.Variables.{Names, Binding, each_binds}
 use Rattle.star_scopes.specs.Making.{Making, each, prepended}
 use Rattle.star_scopes.specs.declared.lists.Lists.{Lists}
 use Rattle.star_scopes.specs.Uses.{Uses, each_uses, then_uses}

@@ -1,6 +1,6 @@
 //! Expressions, with each name as its variable.
 ghost use Rattle.std.specs.Prelude.{◌≡◌, ◌∷◌, IfOk, map, option_map};
-ghost use Rattle.star_names.specs.Variables.{outer};
+ghost use Rattle.star_trees.specs.Variables.{outer};
 ghost use Rattle.star_scopes.specs.ExprMaking as spec;
 ghost use Rattle.star_scopes.specs.ExprMeaning.{arg_meaning, clause_meaning, meaning, pair_meaning, param_meaning};
 ghost use Rattle.star_scopes.specs.Maker.{Keeps, Makes};

@@ -1,6 +1,6 @@
 -- How deep the trees of a file are: what isn't split further counts 1, and a construct counts one more than its deepest part.
 use Rattle.std.specs.Prelude.{ℕ, ◌+◌, ◌≤◌, max, map, option_map}
-use Rattle.star_conditions.specs.Places.{greatest, number_or_zero}
+use Rattle.star_trees.specs.Indexes.{greatest, number_or_zero}
 use Rattle.star_trees.specs.declared.files.File.{File}
 use Rattle.star_trees.specs.declared.files.FnBody.{FnBody}
 use Rattle.star_trees.specs.declared.files.FnBody.TheVariants as body
@@ -29,7 +29,7 @@ abbrev pub clause_depth : Clause-F ℕ ℕ ℕ ℕ ℕ → ℕ
 clause_depth (Clause-F.For to over) = max to over
 clause_depth (Clause-F.If test) = test
 
--- a function is judged by itself, so that its place counts 1
+-- a function is judged by itself, so that its index counts 1
 abbrev pub expr_depth : Expr-F ℕ ℕ ℕ ℕ ℕ → ℕ
 expr_depth (Expr-F.Expr::Name variable) = 1
 expr_depth (Expr-F.Int value) = 1
@@ -42,7 +42,7 @@ expr_depth (Expr-F.DictComp key value clauses) = max (max key value) (greatest c
 expr_depth (Expr-F.Unary op operand) = operand + 1
 expr_depth (Expr-F.Binary op left right) = max left right + 1
 expr_depth (Expr-F.Cond test chosen other) = max test (max chosen other) + 1
-expr_depth (Expr-F.Lambda place) = 1
+expr_depth (Expr-F.Lambda index) = 1
 expr_depth (Expr-F.Attr container name) = container + 1
 expr_depth (Expr-F.Expr::Index container at) = max container at + 1
 expr_depth (Expr-F.Slice container begin end step) = max container (max (number_or_zero begin) (max (number_or_zero end) (number_or_zero step))) + 1
@@ -76,16 +76,16 @@ depth_of_target = fold-Target ℕ ℕ ℕ ℕ ℕ arg_depth clause_depth expr_de
 
 -- a statement by what it says
 abbrev pub kind_depth : StmtKind-F ℕ ℕ → ℕ
-kind_depth (StmtKind-F.Def place to) = 1
+kind_depth (StmtKind-F.Def index to) = 1
 kind_depth (StmtKind-F.If test chosen other) = max (depth_of_expr test) (max (greatest chosen) (greatest other)) + 1
 kind_depth (StmtKind-F.For to over body) = max (depth_of_target to) (max (depth_of_expr over) (greatest body)) + 1
 kind_depth (StmtKind-F.Return value) = number_or_zero (option_map depth_of_expr value) + 1
 kind_depth StmtKind-F.Break = 1
 kind_depth StmtKind-F.Continue = 1
 kind_depth StmtKind-F.Pass = 1
-kind_depth (StmtKind-F.Load place) = 1
+kind_depth (StmtKind-F.Load index) = 1
 kind_depth (StmtKind-F.Assign to value) = max (depth_of_target to) (depth_of_expr value) + 1
-kind_depth (StmtKind-F.Augment place op value) = max (depth_of_expr place) (depth_of_expr value) + 1
+kind_depth (StmtKind-F.Augment to op value) = max (depth_of_expr to) (depth_of_expr value) + 1
 kind_depth (StmtKind-F.Value value) = depth_of_expr value + 1
 
 -- the depth of a statement, and of what it says

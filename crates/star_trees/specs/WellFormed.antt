@@ -1,13 +1,13 @@
 -- Files as an evaluation may rest on them.
-use Rattle.star_conditions.specs.Counted.{VariablesAreCounted}
-use Rattle.star_conditions.specs.Nesting.{NestedWithin}
-use Rattle.star_conditions.specs.Orders.{HasNoRefusedForm}
-use Rattle.star_conditions.specs.Places.{PlacesAreThere}
+use Rattle.star_trees.specs.Counted.{VariablesAreCounted}
+use Rattle.star_trees.specs.Nesting.{NestedWithin}
+use Rattle.star_trees.specs.Orders.{HasNoRefusedForm}
+use Rattle.star_trees.specs.Indexes.{IndexesAreThere}
 use Rattle.star_trees.specs.declared.files.File.{File}
 
 -- Its functions and loads are there, its variables stand where their names do, nothing in it is deeper than 128, and it has no form that the grammar refuses.
 pub record WellFormed (file : File) : Type 0 where
-  pub places : PlacesAreThere file
+  pub indexes : IndexesAreThere file
   pub variables : VariablesAreCounted file
   pub nested : NestedWithin 128 file
   pub forms : HasNoRefusedForm file

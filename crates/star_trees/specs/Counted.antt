@@ -19,10 +19,8 @@ use Rattle.star_trees.specs.declared.trees.StmtKind.{StmtKind, fold-StmtKind}
 use Rattle.star_trees.specs.declared.trees.StmtKind.TheOpen.{StmtKind-F}
 use Rattle.star_trees.specs.declared.trees.Target.{Target, fold-Target}
 use Rattle.star_trees.specs.declared.trees.Var.{Var}
-use Rattle.star_names.specs.Variables.{Names, found, place}
-use Rattle.star_scopes.specs.Bindings.{Binding, no_binding, each_binds, name_binds}
-use Rattle.star_scopes.specs.Making.{begun}
-use Rattle.star_scopes.specs.Scopes.{function_variables, variables}
+use Rattle.star_trees.specs.Variables.{Names, scope_and_slot, slot_of, Binding, no_binding, each_binds, name_binds, function_variables, variables}
+use Rattle.star_trees.specs.Functions.{unfinished_code}
 
 -- whether a tree's variables are counted right where some scopes stand round it, from the innermost on
 abbrev pub Counted : Type 0
@@ -74,17 +72,18 @@ clauses_bound clauses = variables (map (λ (clause : ClauseTally). clause.bound)
 abbrev pub same_scopes : List Names → List Names → Bool
 same_scopes = pointwise (pointwise bytes_eq)
 
-abbrev pub is_place : Option ℕ → ℕ → Bool
-is_place (Some place) slot = eqb slot place
-is_place None slot = false
+-- a slot is this index
+abbrev pub is_slot : Option ℕ → ℕ → Bool
+is_slot (Some index) slot = eqb slot index
+is_slot None slot = false
 
 abbrev pub is_variable : Names → List Names → Var → Option (ℕ × ℕ) → Bool
 is_variable free scopes variable (Some (scope, slot)) = eqb variable.scope scope && eqb variable.slot slot
-is_variable free scopes variable None = eqb variable.scope (length scopes) && is_place (place free variable.name) variable.slot
+is_variable free scopes variable None = eqb variable.scope (length scopes) && is_slot (slot_of free variable.name) variable.slot
 
--- a variable is of the innermost scope that binds its name, at the name's place there; where none binds it, it is a free name at its place, whose scope stands behind those
+-- a variable is of the innermost scope that binds its name, at the name's slot there; where none binds it, it is a free name at its slot, whose scope stands behind those
 unfoldable pub variable_counted : Names → Var → Counted
-variable_counted free variable scopes = is_variable free scopes variable (found scopes variable.name)
+variable_counted free variable scopes = is_variable free scopes variable (scope_and_slot scopes variable.name)
 
 abbrev pub loaded_binds : LoadName → Binding
 loaded_binds loaded = name_binds loaded.local
@@ -104,7 +103,7 @@ module _ (free : Names) (loads : List Load) (around : ℕ → List Names) where
   clause_tally (Clause-F.For to over) = record { bound = to.bound; counted = λ inner scopes. to.counted inner && over.counted scopes }
   clause_tally (Clause-F.If test) = record { bound = no_binding; counted = λ inner scopes. test.counted inner }
 
-  -- an expression binds where it is the place of an augmented assignment
+  -- an expression binds where an augmented assignment is to it
   abbrev pub expr_tally : Expr-F Counted ClauseTally Tally Tally Counted → Tally
   expr_tally (Expr-F.Expr::Name variable) = record { bound = name_binds variable.name; counted = variable_counted free variable }
   expr_tally (Expr-F.Int value) = plain (λ scopes. true)
@@ -117,7 +116,7 @@ module _ (free : Names) (loads : List Load) (around : ℕ → List Names) where
   expr_tally (Expr-F.Unary op operand) = plain operand.counted
   expr_tally (Expr-F.Binary op left right) = plain (λ scopes. left.counted scopes && right.counted scopes)
   expr_tally (Expr-F.Cond test chosen other) = plain (λ scopes. test.counted scopes && (chosen.counted scopes && other.counted scopes))
-  expr_tally (Expr-F.Lambda place) = plain (same_scopes (around place))
+  expr_tally (Expr-F.Lambda index) = plain (same_scopes (around index))
   expr_tally (Expr-F.Attr container name) = plain container.counted
   expr_tally (Expr-F.Expr::Index container at) = plain (λ scopes. container.counted scopes && at.counted scopes)
   expr_tally (Expr-F.Slice container begin end step) = plain (λ scopes. container.counted scopes && (maybe_counted (option_map counted_of begin) scopes && (maybe_counted (option_map counted_of end) scopes && maybe_counted (option_map counted_of step) scopes)))
@@ -153,16 +152,16 @@ module _ (free : Names) (loads : List Load) (around : ℕ → List Names) where
   for_tally to over body = record { bound = λ names. each_bound body (to.bound names); counted = λ scopes. to.counted scopes && (over.counted scopes && all_counted body scopes) }
 
   abbrev pub kind_tally : StmtKind-F Tally Tally → Tally
-  kind_tally (StmtKind-F.Def place to) = record { bound = name_binds to.name; counted = λ scopes. same_scopes (around place) scopes && variable_counted free to scopes }
+  kind_tally (StmtKind-F.Def index to) = record { bound = name_binds to.name; counted = λ scopes. same_scopes (around index) scopes && variable_counted free to scopes }
   kind_tally (StmtKind-F.If test chosen other) = if_tally (expr_in test) chosen other
   kind_tally (StmtKind-F.For to over body) = for_tally (target_in to) (expr_in over) body
   kind_tally (StmtKind-F.Return value) = plain (maybe_counted (option_map counted_of (option_map expr_in value)))
   kind_tally StmtKind-F.Break = plain (λ scopes. true)
   kind_tally StmtKind-F.Continue = plain (λ scopes. true)
   kind_tally StmtKind-F.Pass = plain (λ scopes. true)
-  kind_tally (StmtKind-F.Load place) = record { bound = each_binds (map loaded_binds (get_or loads place no_load).names); counted = λ scopes. true }
+  kind_tally (StmtKind-F.Load index) = record { bound = each_binds (map loaded_binds (get_or loads index no_load).names); counted = λ scopes. true }
   kind_tally (StmtKind-F.Assign to value) = record { bound = (target_in to).bound; counted = λ scopes. (target_in to).counted scopes && (expr_in value).counted scopes }
-  kind_tally (StmtKind-F.Augment place op value) = record { bound = (expr_in place).bound; counted = λ scopes. (expr_in place).counted scopes && (expr_in value).counted scopes }
+  kind_tally (StmtKind-F.Augment to op value) = record { bound = (expr_in to).bound; counted = λ scopes. (expr_in to).counted scopes && (expr_in value).counted scopes }
   kind_tally (StmtKind-F.Value value) = plain (expr_in value).counted
 
   unfoldable pub kind_in : StmtKind → Tally
@@ -202,7 +201,7 @@ module _ (free : Names) (loads : List Load) (around : ℕ → List Names) where
 pub record VariablesAreCounted (file : File) : Type 0 where
   pub around : ℕ → List Names
   pub body : all_counted (map (stmt_in file.free file.loads around) file.body) (file_variables file.free file.loads around file.body ∷ []) ≡ true
-  pub functions : EachIndex file.functions (λ place. code_counted file.free file.loads around (get_or file.functions place begun) (around place) ≡ true)
+  pub functions : EachIndex file.functions (λ index. code_counted file.free file.loads around (get_or file.functions index unfinished_code) (around index) ≡ true)
 
 -- A variable's slot is one of those of its scope, where the free names stand behind the scopes, and has its name there.
 pub record StandsThere (free : Names) (scopes : List Names) (variable : Var) : Type 0 where

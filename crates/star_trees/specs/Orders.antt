@@ -15,9 +15,9 @@ use Rattle.star_trees.specs.declared.trees.Stmt.{Stmt, fold-Stmt}
 use Rattle.star_trees.specs.declared.trees.StmtKind.{StmtKind, fold-StmtKind}
 use Rattle.star_trees.specs.declared.trees.StmtKind.TheOpen.{StmtKind-F}
 use Rattle.star_trees.specs.declared.trees.Target.{Target, fold-Target}
-use Rattle.star_grammar.specs.declared.bare_statements.Inside.{Inside}
-use Rattle.star_grammar.specs.Orders.{all_different, all_of, may_follow, some_and_all, with_name}
-use Rattle.star_grammar.specs.Statements.{at_top, in_branch, in_function, in_loop}
+use Rattle.star_trees.specs.declared.inside.Inside.{Inside}
+use Rattle.star_trees.specs.Lists.{all_different, all_of, may_follow, some_and_all, with_name}
+use Rattle.star_trees.specs.Surroundings.{at_top, in_branch, in_function, in_loop}
 
 -- the names that are given
 abbrev pub given : List (Option (List ℕ)) → List (List ℕ)
@@ -87,7 +87,7 @@ expr_right (Expr-F.DictComp key value clauses) = (key && value) && are_clauses c
 expr_right (Expr-F.Unary op operand) = operand
 expr_right (Expr-F.Binary op left right) = left && right
 expr_right (Expr-F.Cond test chosen other) = test && (chosen && other)
-expr_right (Expr-F.Lambda place) = true
+expr_right (Expr-F.Lambda index) = true
 expr_right (Expr-F.Attr container name) = container
 expr_right (Expr-F.Expr::Index container at) = container && at
 expr_right (Expr-F.Slice container begin end step) = container && (maybe_right begin && (maybe_right end && maybe_right step))
@@ -122,14 +122,14 @@ right_target = fold-Target ArgForm ClauseForm Bool Bool Bool arg_form clause_for
 -- ---- statements
 
 -- whether an expression, opened once, is a name or an index
-abbrev pub is_place_layer : Expr-F Arg Clause Expr Target ExprPair → Bool
-is_place_layer (Expr-F.Expr::Name variable) = true
-is_place_layer (Expr-F.Expr::Index container at) = true
-is_place_layer _ = false
+abbrev pub is_assignable_layer : Expr-F Arg Clause Expr Target ExprPair → Bool
+is_assignable_layer (Expr-F.Expr::Name variable) = true
+is_assignable_layer (Expr-F.Expr::Index container at) = true
+is_assignable_layer _ = false
 
--- the place of an augmented assignment
-unfoldable pub is_place : Expr → Bool
-is_place expression = is_place_layer (out-Expr expression)
+-- what an augmented assignment may be to
+unfoldable pub is_assignable : Expr → Bool
+is_assignable expression = is_assignable_layer (out-Expr expression)
 
 -- each may stand inside what stands round them
 abbrev pub all_stand : List (Inside → Bool) → Inside → Bool
@@ -138,16 +138,16 @@ all_stand (one ∷ more) inside = one inside && all_stand more inside
 
 -- `return` stands in a function, `break` and `continue` in a loop of the same function, and `load` at the top
 abbrev pub kind_stands : StmtKind-F (Inside → Bool) (Inside → Bool) → Inside → Bool
-kind_stands (StmtKind-F.Def place to) inside = true
+kind_stands (StmtKind-F.Def index to) inside = true
 kind_stands (StmtKind-F.If test chosen other) inside = right_expr test && (all_stand chosen (in_branch inside) && all_stand other (in_branch inside))
 kind_stands (StmtKind-F.For to over body) inside = right_target to && (right_expr over && all_stand body (in_loop inside))
 kind_stands (StmtKind-F.Return value) inside = inside.function && maybe_right (option_map right_expr value)
 kind_stands StmtKind-F.Break inside = inside.looping
 kind_stands StmtKind-F.Continue inside = inside.looping
 kind_stands StmtKind-F.Pass inside = true
-kind_stands (StmtKind-F.Load place) inside = inside.top
+kind_stands (StmtKind-F.Load index) inside = inside.top
 kind_stands (StmtKind-F.Assign to value) inside = right_target to && right_expr value
-kind_stands (StmtKind-F.Augment place op value) inside = is_place place && (right_expr place && right_expr value)
+kind_stands (StmtKind-F.Augment to op value) inside = is_assignable to && (right_expr to && right_expr value)
 kind_stands (StmtKind-F.Value value) inside = right_expr value
 
 -- whether a statement may stand inside what stands round it

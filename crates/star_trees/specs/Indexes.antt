@@ -1,4 +1,4 @@
--- The places among a file's functions and loads that stand in its trees.
+-- The indexes of functions and loads of a file that stand in its trees.
 use Rattle.std.specs.Prelude.{ℕ, ◌+◌, ◌≤◌, max, List, [], ◌∷◌, length, map, Option, Some, None, option_map}
 use Rattle.star_trees.specs.declared.files.File.{File}
 use Rattle.star_trees.specs.declared.files.FnBody.{FnBody}
@@ -25,7 +25,7 @@ abbrev pub number_or_zero : Option ℕ → ℕ
 number_or_zero (Some n) = n
 number_or_zero None = 0
 
--- ---- functions: one more than the greatest place among the functions that stands in a tree, 0 where none does
+-- ---- functions: one more than the greatest index among the functions that stands in a tree, 0 where none does
 
 abbrev pub arg_functions : Arg-F ℕ ℕ ℕ ℕ ℕ → ℕ
 arg_functions (Arg-F.Positional value) = value
@@ -46,7 +46,7 @@ expr_functions (Expr-F.DictComp key value clauses) = max (max key value) (greate
 expr_functions (Expr-F.Unary op operand) = operand
 expr_functions (Expr-F.Binary op left right) = max left right
 expr_functions (Expr-F.Cond test chosen other) = max test (max chosen other)
-expr_functions (Expr-F.Lambda place) = place + 1
+expr_functions (Expr-F.Lambda index) = index + 1
 expr_functions (Expr-F.Attr container name) = container
 expr_functions (Expr-F.Expr::Index container at) = max container at
 expr_functions (Expr-F.Slice container begin end step) = max container (max (number_or_zero begin) (max (number_or_zero end) (number_or_zero step)))
@@ -77,12 +77,12 @@ unfoldable pub functions_of_target : Target → ℕ
 functions_of_target = fold-Target ℕ ℕ ℕ ℕ ℕ arg_functions clause_functions expr_functions target_functions pair_functions
 
 abbrev pub kind_functions : StmtKind-F ℕ ℕ → ℕ
-kind_functions (StmtKind-F.Def place to) = place + 1
+kind_functions (StmtKind-F.Def index to) = index + 1
 kind_functions (StmtKind-F.If test chosen other) = max (functions_of_expr test) (max (greatest chosen) (greatest other))
 kind_functions (StmtKind-F.For to over body) = max (functions_of_target to) (max (functions_of_expr over) (greatest body))
 kind_functions (StmtKind-F.Return value) = number_or_zero (option_map functions_of_expr value)
 kind_functions (StmtKind-F.Assign to value) = max (functions_of_target to) (functions_of_expr value)
-kind_functions (StmtKind-F.Augment place op value) = max (functions_of_expr place) (functions_of_expr value)
+kind_functions (StmtKind-F.Augment to op value) = max (functions_of_expr to) (functions_of_expr value)
 kind_functions (StmtKind-F.Value value) = functions_of_expr value
 kind_functions _ = 0
 
@@ -103,12 +103,12 @@ functions_of_body (body.Value value) = functions_of_expr value
 abbrev pub functions_of_code : FnCode → ℕ
 functions_of_code code = max (greatest (map functions_of_param code.params)) (functions_of_body code.body)
 
--- ---- loads: one more than the greatest place among the loads that stands in a tree, 0 where none does
+-- ---- loads: one more than the greatest index among the loads that stands in a tree, 0 where none does
 
 abbrev pub kind_loads : StmtKind-F ℕ ℕ → ℕ
 kind_loads (StmtKind-F.If test chosen other) = max (greatest chosen) (greatest other)
 kind_loads (StmtKind-F.For to over body) = greatest body
-kind_loads (StmtKind-F.Load place) = place + 1
+kind_loads (StmtKind-F.Load index) = index + 1
 kind_loads _ = 0
 
 unfoldable pub loads_of_stmt : Stmt → ℕ
@@ -126,8 +126,8 @@ loads_of_code code = loads_of_body code.body
 
 -- ---- files
 
--- Each place that stands in the body of a file or in the code of its functions is one of its functions or of its loads.
-pub record PlacesAreThere (file : File) : Type 0 where
+-- Each index that stands in the body of a file or in the code of its functions is one of its functions or of its loads.
+pub record IndexesAreThere (file : File) : Type 0 where
   pub body_functions : greatest (map functions_of_stmt file.body) ≤ length file.functions
   pub body_loads : greatest (map loads_of_stmt file.body) ≤ length file.loads
   pub code_functions : greatest (map functions_of_code file.functions) ≤ length file.functions

@@ -1,0 +1,9 @@
+pub mod Counted
+pub mod Functions
+pub mod Indexes
+pub mod Lists
+pub mod Nesting
+pub mod Orders
+pub mod Surroundings
+pub mod Variables
+pub mod WellFormed
