@@ -9,8 +9,8 @@ use crate::bindings::{clause_variables, param_variables};
 use crate::maker::Maker;
 use bz_text::{Mem, Seq, Txt};
 use sqlite_items::{Boxed, Items};
-use star_trees::{Arg, BinOp, Clause, Expr, ExprPair, FnBody, FnCode, Param, Target, UnOp};
 use star_grammar::{BareArg, BareClause, BareExpr, BarePair, BareParam};
+use star_trees::{Arg, BinOp, Clause, Expr, ExprPair, FnBody, FnCode, Param, Target, UnOp};
 use std::alloc::Global;
 
 impl Maker {

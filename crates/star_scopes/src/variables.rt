@@ -5,8 +5,8 @@ ghost use Rattle.star_scopes.specs.Scopes as spec;
 
 use crate::numbers::number;
 use bz_text::{Mem, Txt};
-use star_trees::Var;
 use star_names::{Names, Scopes};
+use star_trees::Var;
 use std::alloc::Global;
 
 /// The slot of a free name.
