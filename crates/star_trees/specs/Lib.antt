@@ -1,7 +1,9 @@
 pub mod Counted
+pub mod Folds
 pub mod Functions
 pub mod Indexes
 pub mod Lists
+pub mod Mentions
 pub mod Nesting
 pub mod Orders
 pub mod Surroundings

@@ -7,15 +7,16 @@ use Rattle.star_trees.specs.declared.files.FnBody.TheVariants as body
 use Rattle.star_trees.specs.declared.files.FnCode.{FnCode}
 use Rattle.star_trees.specs.declared.files.Param.{Param}
 use Rattle.star_trees.specs.declared.files.Param.TheVariants as param
-use Rattle.star_trees.specs.declared.trees.Arg.{Arg, fold-Arg}
 use Rattle.star_trees.specs.declared.trees.Arg.TheOpen.{Arg-F, Clause-F, Expr-F, ExprPair-F, Target-F}
-use Rattle.star_trees.specs.declared.trees.Clause.{Clause, fold-Clause}
-use Rattle.star_trees.specs.declared.trees.Expr.{Expr, fold-Expr}
-use Rattle.star_trees.specs.declared.trees.ExprPair.{ExprPair, fold-ExprPair}
-use Rattle.star_trees.specs.declared.trees.Stmt.{Stmt, fold-Stmt}
-use Rattle.star_trees.specs.declared.trees.StmtKind.{StmtKind, fold-StmtKind}
 use Rattle.star_trees.specs.declared.trees.StmtKind.TheOpen.{StmtKind-F}
-use Rattle.star_trees.specs.declared.trees.Target.{Target, fold-Target}
+use Rattle.star_trees.specs.Folds.{ExprValues, StmtValues, fold_arg, fold_clause, fold_expr, fold_kind, fold_pair, fold_stmt, fold_target}
+use Rattle.star_trees.specs.declared.trees.Arg.{Arg}
+use Rattle.star_trees.specs.declared.trees.Clause.{Clause}
+use Rattle.star_trees.specs.declared.trees.Expr.{Expr}
+use Rattle.star_trees.specs.declared.trees.ExprPair.{ExprPair}
+use Rattle.star_trees.specs.declared.trees.Stmt.{Stmt}
+use Rattle.star_trees.specs.declared.trees.StmtKind.{StmtKind}
+use Rattle.star_trees.specs.declared.trees.Target.{Target}
 
 -- an argument is as deep as its value
 abbrev pub arg_depth : Arg-F ℕ ℕ ℕ ℕ ℕ → ℕ
@@ -58,21 +59,29 @@ target_depth (Target-F.Target::Name name) = 1
 target_depth (Target-F.Target::Index container at) = max container at + 1
 target_depth (Target-F.Many targets) = greatest targets + 1
 
--- the depth of each tree of an expression
-unfoldable pub depth_of_arg : Arg → ℕ
-depth_of_arg = fold-Arg ℕ ℕ ℕ ℕ ℕ arg_depth clause_depth expr_depth target_depth pair_depth
+-- the depths of the trees of expressions
+abbrev pub expr_depths : ExprValues ℕ ℕ ℕ ℕ ℕ
+expr_depths = record { arg = arg_depth; clause = clause_depth; expr = expr_depth; target = target_depth; pair = pair_depth }
 
-unfoldable pub depth_of_clause : Clause → ℕ
-depth_of_clause = fold-Clause ℕ ℕ ℕ ℕ ℕ arg_depth clause_depth expr_depth target_depth pair_depth
+-- the depth of an argument
+abbrev pub depth_of_arg : Arg → ℕ
+depth_of_arg = fold_arg expr_depths
 
-unfoldable pub depth_of_expr : Expr → ℕ
-depth_of_expr = fold-Expr ℕ ℕ ℕ ℕ ℕ arg_depth clause_depth expr_depth target_depth pair_depth
+-- the depth of a clause
+abbrev pub depth_of_clause : Clause → ℕ
+depth_of_clause = fold_clause expr_depths
 
-unfoldable pub depth_of_pair : ExprPair → ℕ
-depth_of_pair = fold-ExprPair ℕ ℕ ℕ ℕ ℕ arg_depth clause_depth expr_depth target_depth pair_depth
+-- the depth of an expression
+abbrev pub depth_of_expr : Expr → ℕ
+depth_of_expr = fold_expr expr_depths
 
-unfoldable pub depth_of_target : Target → ℕ
-depth_of_target = fold-Target ℕ ℕ ℕ ℕ ℕ arg_depth clause_depth expr_depth target_depth pair_depth
+-- the depth of an entry
+abbrev pub depth_of_pair : ExprPair → ℕ
+depth_of_pair = fold_pair expr_depths
+
+-- the depth of a target
+abbrev pub depth_of_target : Target → ℕ
+depth_of_target = fold_target expr_depths
 
 -- a statement by what it says
 abbrev pub kind_depth : StmtKind-F ℕ ℕ → ℕ
@@ -88,12 +97,17 @@ kind_depth (StmtKind-F.Assign to value) = max (depth_of_target to) (depth_of_exp
 kind_depth (StmtKind-F.Augment to op value) = max (depth_of_expr to) (depth_of_expr value) + 1
 kind_depth (StmtKind-F.Value value) = depth_of_expr value + 1
 
--- the depth of a statement, and of what it says
-unfoldable pub depth_of_stmt : Stmt → ℕ
-depth_of_stmt = fold-Stmt ℕ ℕ kind_depth (λ stmt. stmt.kind)
+-- the depths of statements
+abbrev pub stmt_depths : StmtValues ℕ ℕ
+stmt_depths = record { kind = kind_depth; stmt = λ stmt. stmt.kind }
 
-unfoldable pub depth_of_kind : StmtKind → ℕ
-depth_of_kind = fold-StmtKind ℕ ℕ kind_depth (λ stmt. stmt.kind)
+-- the depth of what a statement says
+abbrev pub depth_of_kind : StmtKind → ℕ
+depth_of_kind = fold_kind stmt_depths
+
+-- the depth of a statement
+abbrev pub depth_of_stmt : Stmt → ℕ
+depth_of_stmt = fold_stmt stmt_depths
 
 -- a parameter without a default counts 1
 abbrev pub depth_of_param : Param → ℕ

@@ -6,18 +6,19 @@ use Rattle.star_trees.specs.declared.files.FnBody.TheVariants as body
 use Rattle.star_trees.specs.declared.files.FnCode.{FnCode}
 use Rattle.star_trees.specs.declared.files.Param.{Param}
 use Rattle.star_trees.specs.declared.files.Param.TheVariants as param
-use Rattle.star_trees.specs.declared.trees.Arg.{Arg, fold-Arg}
 use Rattle.star_trees.specs.declared.trees.Arg.TheOpen.{Arg-F, Clause-F, Expr-F, ExprPair-F, Target-F}
-use Rattle.star_trees.specs.declared.trees.Clause.{Clause, fold-Clause}
-use Rattle.star_trees.specs.declared.trees.Expr.{Expr, fold-Expr, out-Expr}
-use Rattle.star_trees.specs.declared.trees.ExprPair.{ExprPair, fold-ExprPair}
-use Rattle.star_trees.specs.declared.trees.Stmt.{Stmt, fold-Stmt}
-use Rattle.star_trees.specs.declared.trees.StmtKind.{StmtKind, fold-StmtKind}
 use Rattle.star_trees.specs.declared.trees.StmtKind.TheOpen.{StmtKind-F}
-use Rattle.star_trees.specs.declared.trees.Target.{Target, fold-Target}
 use Rattle.star_trees.specs.declared.inside.Inside.{Inside}
 use Rattle.star_trees.specs.Lists.{all_different, all_of, may_follow, some_and_all, with_name}
 use Rattle.star_trees.specs.Surroundings.{at_top, in_branch, in_function, in_loop}
+use Rattle.star_trees.specs.Folds.{ExprValues, StmtValues, fold_arg, fold_clause, fold_expr, fold_kind, fold_pair, fold_stmt, fold_target}
+use Rattle.star_trees.specs.declared.trees.Arg.{Arg}
+use Rattle.star_trees.specs.declared.trees.Clause.{Clause}
+use Rattle.star_trees.specs.declared.trees.Expr.{Expr, out-Expr}
+use Rattle.star_trees.specs.declared.trees.ExprPair.{ExprPair}
+use Rattle.star_trees.specs.declared.trees.Stmt.{Stmt}
+use Rattle.star_trees.specs.declared.trees.StmtKind.{StmtKind}
+use Rattle.star_trees.specs.declared.trees.Target.{Target}
 
 -- the names that are given
 abbrev pub given : List (Option (List ℕ)) → List (List ℕ)
@@ -103,21 +104,29 @@ target_right (Target-F.Target::Name name) = true
 target_right (Target-F.Target::Index container at) = container && at
 target_right (Target-F.Many targets) = some_and_all targets
 
--- the form of each tree of an expression
-unfoldable pub form_of_arg : Arg → ArgForm
-form_of_arg = fold-Arg ArgForm ClauseForm Bool Bool Bool arg_form clause_form expr_right target_right pair_right
+-- the forms of the trees of expressions
+abbrev pub expr_forms : ExprValues ArgForm ClauseForm Bool Bool Bool
+expr_forms = record { arg = arg_form; clause = clause_form; expr = expr_right; target = target_right; pair = pair_right }
 
-unfoldable pub form_of_clause : Clause → ClauseForm
-form_of_clause = fold-Clause ArgForm ClauseForm Bool Bool Bool arg_form clause_form expr_right target_right pair_right
+-- the form of an argument
+abbrev pub form_of_arg : Arg → ArgForm
+form_of_arg = fold_arg expr_forms
 
-unfoldable pub right_expr : Expr → Bool
-right_expr = fold-Expr ArgForm ClauseForm Bool Bool Bool arg_form clause_form expr_right target_right pair_right
+-- the form of a clause
+abbrev pub form_of_clause : Clause → ClauseForm
+form_of_clause = fold_clause expr_forms
 
-unfoldable pub right_pair : ExprPair → Bool
-right_pair = fold-ExprPair ArgForm ClauseForm Bool Bool Bool arg_form clause_form expr_right target_right pair_right
+-- whether an expression has no refused form
+abbrev pub right_expr : Expr → Bool
+right_expr = fold_expr expr_forms
 
-unfoldable pub right_target : Target → Bool
-right_target = fold-Target ArgForm ClauseForm Bool Bool Bool arg_form clause_form expr_right target_right pair_right
+-- whether an entry has no refused form
+abbrev pub right_pair : ExprPair → Bool
+right_pair = fold_pair expr_forms
+
+-- whether a target has no refused form
+abbrev pub right_target : Target → Bool
+right_target = fold_target expr_forms
 
 -- ---- statements
 
@@ -150,13 +159,17 @@ kind_stands (StmtKind-F.Assign to value) inside = right_target to && right_expr 
 kind_stands (StmtKind-F.Augment to op value) inside = is_assignable to && (right_expr to && right_expr value)
 kind_stands (StmtKind-F.Value value) inside = right_expr value
 
--- whether a statement may stand inside what stands round it
-unfoldable pub stands : Stmt → Inside → Bool
-stands = fold-Stmt (Inside → Bool) (Inside → Bool) kind_stands (λ stmt. stmt.kind)
+-- where statements may stand
+abbrev pub stmt_forms : StmtValues (Inside → Bool) (Inside → Bool)
+stmt_forms = record { kind = kind_stands; stmt = λ stmt. stmt.kind }
 
--- the same of what a statement says
-unfoldable pub stands_as : StmtKind → Inside → Bool
-stands_as = fold-StmtKind (Inside → Bool) (Inside → Bool) kind_stands (λ stmt. stmt.kind)
+-- whether what a statement says may stand inside what stands round it
+abbrev pub stands_as : StmtKind → Inside → Bool
+stands_as = fold_kind stmt_forms
+
+-- whether a statement may stand inside what stands round it
+abbrev pub stands : Stmt → Inside → Bool
+stands = fold_stmt stmt_forms
 
 -- ---- functions
 
