@@ -69,7 +69,7 @@ each-sure functions loads make means good (item ∷ more) =
     bind-good i j (λ made. greatest (map functions made)) (λ made. greatest (map loads made)) _ _ _ _ (from-good i j (each-sure functions loads make means good more)) (λ others k l fewer fewer_loads many many_loads.
     pure-good k l _ _ (a ∷ others) (omega arith) (omega arith)))
 
--- what has no places
+-- what has no indexes
 abbrev pub none : {A : Type 0} → A → ℕ
 none a = 0
 
@@ -77,7 +77,7 @@ none a = 0
 pub done : {A : Type 0} {functions : A → ℕ} (n m : ℕ) (a : A) → functions a ≤ n → Good n m functions none (pure a)
 done {functions} n m a within = pure-good n m functions none a within (omega arith)
 
--- ---- places that are taken, and codes that are put
+-- ---- indexes that are taken, and codes that are put
 
 greatest-behind : {A : Type 0} (f : A → ℕ) (k : ℕ) (xs : List A) (x : A) → greatest (map f xs) ≤ k → f x ≤ k → greatest (map f (xs ++ x ∷ [])) ≤ k
 greatest-behind f k [] x all one = omega arith
@@ -88,7 +88,7 @@ greatest-set f k [] i x all one = all
 greatest-set f k (y ∷ xs) zero x all one = omega arith
 greatest-set f k (y ∷ xs) (suc i) x all one = let more = greatest-set f k xs i x (omega arith) one in omega arith
 
-pub begin-good : (n m : ℕ) → Good n m (λ place. place + 1) none begin
+pub begin-good : (n m : ℕ) → Good n m (λ index. index + 1) none begin
 begin-good n m lists enough enough_loads =
     let more = length-append lists.functions (unfinished_code ∷ []) in
     record {
@@ -100,19 +100,19 @@ begin-good n m lists enough enough_loads =
       code_loads = λ k above so. greatest-behind loads_of_code k lists.functions unfinished_code so (omega arith);
     }
 
-pub finish-good : (n m place : ℕ) (code : FnCode) → functions_of_code code ≤ n → loads_of_code code ≤ m → Good n m none none (finish place code)
-finish-good n m place code within loaded lists enough enough_loads =
-    let same = length-set lists.functions place code in
+pub finish-good : (n m index : ℕ) (code : FnCode) → functions_of_code code ≤ n → loads_of_code code ≤ m → Good n m none none (finish index code)
+finish-good n m index code within loaded lists enough enough_loads =
+    let same = length-set lists.functions index code in
     record {
       functions_grow = omega (arith, same);
       loads_grow = le_refl _;
       value_functions = omega arith;
       value_loads = omega arith;
-      code_functions = λ k above so. greatest-set functions_of_code k lists.functions place code so (omega (arith, same));
-      code_loads = λ k above so. greatest-set loads_of_code k lists.functions place code so (omega arith);
+      code_functions = λ k above so. greatest-set functions_of_code k lists.functions index code so (omega (arith, same));
+      code_loads = λ k above so. greatest-set loads_of_code k lists.functions index code so (omega arith);
     }
 
-pub load-good : (n m : ℕ) (loaded : Load) → Good n m none (λ place. place + 1) (load loaded)
+pub load-good : (n m : ℕ) (loaded : Load) → Good n m none (λ index. index + 1) (load loaded)
 load-good n m loaded lists enough enough_loads =
     let more = length-append lists.loads (loaded ∷ []) in
     record {
