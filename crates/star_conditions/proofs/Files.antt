@@ -1,5 +1,5 @@
 -- The indexes, the variables and the functions of resolved files.
-use Rattle.std.proofs.Common.{◌≡◌, ℕ, ◌+◌, ◌<◌, true, List, [], ◌∷◌, length, map, All, Result, Ok, Err, ap, arith, le_refl, refl, subst, sym, IfOk}
+use Rattle.std.proofs.Common.{◌≡◌, ◌+◌, true, List, [], ◌∷◌, length, map, All, Result, Ok, Err, ap, arith, le_refl, refl, subst, sym, IfOk}
 use Rattle.std.proofs.lemmas.List.Elements.{All-append, All-nil}
 use Rattle.star_conditions.proofs.CountsMade.{Whole, all-bound, all-fit, known_of, still}
 use Rattle.star_conditions.proofs.FreeUses.{Bounded, Covered, within-self}

@@ -5,7 +5,7 @@ use Rattle.star_conditions.proofs.MeaningInduction.{KindParts, StmtParts, meant-
 use Rattle.star_conditions.proofs.Trees.{With, bare}
 use Rattle.star_conditions.proofs.MentionsMade.{Tells, then, done, each-tells, each-surely, function-tells, load-tells}
 use Rattle.star_trees.proofs.Folds as is
-use Rattle.star_trees.specs.Mentions.{mentions_of_expr, mentions_of_kind, mentions_of_param, mentions_of_stmt, stmts_mention}
+use Rattle.star_trees.specs.Mentions.{mentions_of_kind, mentions_of_param, mentions_of_stmt, stmts_mention}
 use Rattle.star_trees.specs.declared.files.Param.{Param}
 use Rattle.star_trees.specs.declared.trees.Stmt.{Stmt}
 use Rattle.star_trees.specs.declared.trees.BinOp.{BinOp}

@@ -1,7 +1,7 @@
 -- What the grammar asks of trees besides: the order of parameters and arguments, names that differ, targets and places. The Starlark specification, "Function and method calls", "Function definitions", "Assignments".
-use Rattle.std.specs.Prelude.{ℕ, Bool, true, false, ◌&&◌, ◌==◌, nat_le, if◌then◌else◌, List, [], ◌∷◌, length, Option, Some, None}
+use Rattle.std.specs.Prelude.{ℕ, Bool, true, false, ◌&&◌, ◌==◌, nat_le, if◌then◌else◌, List, [], ◌∷◌, Option, Some, None}
 use Rattle.star_grammar.specs.declared.bare_expressions.BareArg.{BareArg, out-BareArg}
-use Rattle.star_grammar.specs.declared.bare_expressions.BareArg.TheOpen.{BareArg-F, BareClause-F, BareExpr-F, BareParam-F, BarePair-F}
+use Rattle.star_grammar.specs.declared.bare_expressions.BareArg.TheOpen.{BareArg-F, BareExpr-F, BareParam-F}
 use Rattle.star_grammar.specs.declared.bare_expressions.BareClause.{BareClause}
 use Rattle.star_grammar.specs.declared.bare_expressions.BareExpr.{BareExpr, fold-BareExpr, out-BareExpr}
 use Rattle.star_grammar.specs.declared.bare_expressions.BarePair.{BarePair}

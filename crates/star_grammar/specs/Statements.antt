@@ -1,6 +1,5 @@
 -- The grammar of files and statements: the Starlark specification, "Statements". Each constructor is a production; what nests is read by the rules of one nesting less.
-use Rattle.std.specs.Prelude.{◌≡◌, ℕ, zero, suc, max, Bool, true, false, List, [], ◌∷◌, Option, Some, None}
-use Rattle.star_trees.specs.declared.loads.LoadName.{LoadName}
+use Rattle.std.specs.Prelude.{◌≡◌, ℕ, zero, suc, max, true, List, [], ◌∷◌, Some, None}
 use Rattle.star_trees.specs.declared.trees.BinOp.{BinOp}
 use Rattle.star_grammar.specs.declared.symbols.Sign.{Sign}
 use Rattle.star_grammar.specs.declared.symbols.Sign.TheVariants as s
@@ -19,7 +18,7 @@ use Rattle.star_grammar.specs.declared.bare_statements.Part.TheVariants as part
 use Rattle.star_grammar.specs.Expressions.{Tree, Expression, Vars, Param, Spells}
 use Rattle.star_grammar.specs.Operators.{augmented}
 use Rattle.star_grammar.specs.Orders.{are_params, is_place, is_target}
-use Rattle.star_grammar.specs.Rules.{Rule, sign, word, string, front_line, Deep, deep, Repeated, Nothing, One, Adds, Joins, After, Series, Closed, Listed}
+use Rattle.star_grammar.specs.Rules.{Rule, sign, word, string, front_line, Deep, deep, Repeated, Nothing, Adds, Joins, After, Series, Closed, Listed}
 use Rattle.star_trees.specs.Surroundings.{at_top, in_branch, in_function, in_loop}
 
 abbrev pub Statements : Type 0
