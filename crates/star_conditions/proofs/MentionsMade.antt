@@ -1,4 +1,5 @@
--- What is made, beside the functions of which it speaks: each of those that are added is mentioned once, by the value or by the code of another.
+-- What is made, beside the functions of which it speaks: each of those that are added is mentioned
+-- once, by the value or by the code of another.
 use Rattle.std.proofs.Common.{◌≡◌, ℕ, zero, suc, ◌+◌, ◌<◌, ◌≢◌, Bool, true, false, true≢false, eqb, cond, List, [], ◌∷◌, ◌++◌, length, map, get_or, set, All, arith, append-nil, append_assoc, ap, refl, sym, subst, ◌∙◌, length-append}
 use Rattle.std.proofs.Math.Seq.{get_or-append_seam}
 use Rattle.std.proofs.lemmas.Bool.{eqb-true, eqb-false}
@@ -13,11 +14,14 @@ use Rattle.star_trees.specs.declared.loads.Load.{Load}
 
 -- ---- how often an index is mentioned
 
-pub count-append : (i : ℕ) (xs ys : List Mention) → mention_count i (xs ++ ys) ≡ mention_count i xs + mention_count i ys
+pub count-append : (i : ℕ) (xs ys : List Mention)
+    → mention_count i (xs ++ ys) ≡ mention_count i xs + mention_count i ys
 count-append i [] ys = omega arith
 count-append i (x ∷ xs) ys = let more = count-append i xs ys in omega (arith, more)
 
-all_mentions-append : (xs ys : List FnCode) → all_mentions (map mentions_of_code (xs ++ ys)) ≡ all_mentions (map mentions_of_code xs) ++ all_mentions (map mentions_of_code ys)
+all_mentions-append : (xs ys : List FnCode)
+    → all_mentions (map mentions_of_code (xs ++ ys)) ≡ all_mentions (map mentions_of_code xs) ++
+      all_mentions (map mentions_of_code ys)
 all_mentions-append [] ys = refl
 all_mentions-append (x ∷ xs) ys =
     ap (λ more. mentions_of_code x ++ more) (all_mentions-append xs ys)
@@ -69,37 +73,52 @@ nothing-unfinished true so = true≢false (sym so)
 nothing-unfinished false so = true≢false (sym so)
 
 -- further codes leave those before as they are
-code-behind : (defines : Bool) (xs more : List FnCode) (i : ℕ) → is_code_of defines (get_or xs i unfinished_code) ≡ true → is_code_of defines (get_or (xs ++ more) i unfinished_code) ≡ true
+code-behind : (defines : Bool) (xs more : List FnCode) (i : ℕ)
+    → is_code_of defines (get_or xs i unfinished_code) ≡ true
+    → is_code_of defines (get_or (xs ++ more) i unfinished_code) ≡ true
 code-behind defines [] more i so = absurd (nothing-unfinished defines so)
 code-behind defines (x ∷ xs) more zero so = so
 code-behind defines (x ∷ xs) more (suc i) so = code-behind defines xs more i so
 
 -- and so does a code that is put at an index that was taken
-code-put : (defines : Bool) (xs more : List FnCode) (code : FnCode) (i : ℕ) → is_code_of defines (get_or ((xs ++ unfinished_code ∷ []) ++ more) i unfinished_code) ≡ true → is_code_of defines (get_or (xs ++ code ∷ more) i unfinished_code) ≡ true
+code-put : (defines : Bool) (xs more : List FnCode) (code : FnCode) (i : ℕ)
+    → is_code_of defines (get_or ((xs ++ unfinished_code ∷ []) ++ more) i unfinished_code) ≡ true
+    → is_code_of defines (get_or (xs ++ code ∷ more) i unfinished_code) ≡ true
 code-put defines [] more code zero so = absurd (nothing-unfinished defines so)
 code-put defines [] more code (suc i) so = so
 code-put defines (x ∷ xs) more code zero so = so
 code-put defines (x ∷ xs) more code (suc i) so = code-put defines xs more code i so
 
-all-behind : (before after more : List FnCode) → after ≡ before ++ more → (mentions : List Mention) → All (Fits before) mentions → All (Fits after) mentions
+all-behind : (before after more : List FnCode)
+    → after ≡ before ++ more
+    → (mentions : List Mention)
+    → All (Fits before) mentions
+    → All (Fits after) mentions
 all-behind before after more is mentions all =
     All-weaker (Fits before) (Fits after) (λ mention so. subst (λ functions. Fits functions mention) (sym is) (code-behind mention.defines before more mention.index so)) mentions all
 
 -- ---- makings
 
--- what holds after a value is made that is to speak of functions that are known and of those that are added
+-- what holds after a value is made that is to speak of functions that are known and of those that
+-- are added
 pub record Told {A : Type 0} (mentions : A → List Mention) (known : List Mention) (before : Lists) (made : A × Lists) : Type 0 where
   pub more : List FnCode
   pub is : made.1.functions ≡ before.functions ++ more
-  pub counted : (i : ℕ) → mention_count i (mentions made.0) + mention_count i (all_mentions (map mentions_of_code more)) + below (length before.functions) i ≡ mention_count i known + below (length before.functions + length more) i
+  pub counted : (i : ℕ)
+      → mention_count i (mentions made.0) + mention_count i
+        (all_mentions (map mentions_of_code more)) + below (length before.functions) i ≡
+        mention_count i known + below (length before.functions + length more) i
   pub value_fits : All (Fits before.functions) known → All (Fits made.1.functions) (mentions made.0)
-  pub codes_fit : All (Fits before.functions) known → All (Fits made.1.functions) (all_mentions (map mentions_of_code more))
+  pub codes_fit : All (Fits before.functions) known
+      → All (Fits made.1.functions) (all_mentions (map mentions_of_code more))
 
 -- a making whose value speaks of what is known and of what it adds
 abbrev pub Tells : {A : Type 0} → (A → List Mention) → List Mention → Making A → Type 0
 Tells mentions known making = (lists : Lists) → Told mentions known lists (making lists)
 
-pub done : {A : Type 0} {mentions : A → List Mention} {known : List Mention} (a : A) → mentions a ≡ known → Tells mentions known (pure a)
+pub done : {A : Type 0} {mentions : A → List Mention} {known : List Mention} (a : A)
+    → mentions a ≡ known
+    → Tells mentions known (pure a)
 done {mentions} {known} a is lists = record {
   more = [];
   is = sym (append-nil lists.functions);
@@ -113,7 +132,10 @@ done {mentions} {known} a is lists = record {
 }
 
 -- a making, and what comes behind it
-pub then : {A B : Type 0} {f : A → List Mention} {g : B → List Mention} {known : List Mention} {making : Making A} {next : A → Making B} → Tells f [] making
+pub then :
+    {A B : Type 0} {f : A → List Mention} {g : B → List Mention} {known : List Mention}
+    {making : Making A} {next : A → Making B}
+    → Tells f [] making
     → ((a : A) → Tells g (known ++ f a) (next a)) → Tells g known (making >>= next)
 then {f} {g} {known} {making} {next} tells goes lists =
     let before = lists.functions in
@@ -144,7 +166,9 @@ then {f} {g} {known} {making} {next} tells goes lists =
           (second.codes_fit (both all)));
     }
 
-pub each-tells : {A B C : Type 0} {P : C → Type 0} (f : A → List Mention) (make : B → Making A) (means : C → B) → ((c : C) → P c → Tells f [] (make (means c)))
+pub each-tells :
+    {A B C : Type 0} {P : C → Type 0} (f : A → List Mention) (make : B → Making A) (means : C → B)
+    → ((c : C) → P c → Tells f [] (make (means c)))
     → (items : List ((c : C) × P c)) → Tells (λ made. all_mentions (map f made)) [] (each (map make (map means (map (λ item. item.0) items))))
 each-tells f make means tells [] = done [] refl
 each-tells f make means tells (item ∷ more) =
@@ -152,7 +176,8 @@ each-tells f make means tells (item ∷ more) =
     then {f = λ made. all_mentions (map f made)} (each-tells f make means tells more) (λ others.
     done (a ∷ others) refl))
 
-pub each-surely : {A B C : Type 0} (f : A → List Mention) (make : B → Making A) (means : C → B) → ((c : C) → Tells f [] (make (means c)))
+pub each-surely : {A B C : Type 0} (f : A → List Mention) (make : B → Making A) (means : C → B)
+    → ((c : C) → Tells f [] (make (means c)))
     → (items : List C) → Tells (λ made. all_mentions (map f made)) [] (each (map make (map means items)))
 each-surely f make means tells [] = done [] refl
 each-surely f make means tells (item ∷ more) =
@@ -161,7 +186,10 @@ each-surely f make means tells (item ∷ more) =
     done (a ∷ others) refl))
 
 -- a function whose parts are made before its code is put at the index that it took
-pub function-tells : {A B : Type 0} {f : A → List Mention} {mentions : B → List Mention} (defines : Bool) (inner : Making A) (code : A → FnCode) (result : ℕ → B) → Tells f [] inner
+pub function-tells :
+    {A B : Type 0} {f : A → List Mention} {mentions : B → List Mention} (defines : Bool)
+    (inner : Making A) (code : A → FnCode) (result : ℕ → B)
+    → Tells f [] inner
     → ((a : A) → mentions_of_code (code a) ≡ f a) → ((a : A) → is_code_of defines (code a) ≡ true) → ((index : ℕ) → mentions (result index) ≡ record { defines = defines; index = index } ∷ [])
     → Tells mentions [] (begin >>= (λ index. inner >>= (λ a. finish index (code a) >> pure (result index))))
 function-tells {f} {mentions} defines inner code result tells codes right results lists =

@@ -1,4 +1,5 @@
--- Values that are given to trees, from the leaves up: a construct's value is told by those of its parts.
+-- Values that are given to trees, from the leaves up: a construct's value is told by those of its
+-- parts.
 use Rattle.star_trees.specs.declared.trees.Arg.{Arg, fold-Arg}
 use Rattle.star_trees.specs.declared.trees.Arg.TheOpen.{Arg-F, Clause-F, Expr-F, ExprPair-F, Target-F}
 use Rattle.star_trees.specs.declared.trees.Clause.{Clause, fold-Clause}

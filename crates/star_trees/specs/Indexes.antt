@@ -27,7 +27,7 @@ abbrev pub number_or_zero : Option ℕ → ℕ
 number_or_zero (Some n) = n
 number_or_zero None = 0
 
--- ---- functions: one more than the greatest index among the functions that stands in a tree, 0 where none does
+-- ---- functions: one more than the greatest index of a function in a tree, 0 where there is none
 
 -- those of an argument, by its value
 abbrev pub arg_functions : Arg-F ℕ ℕ ℕ ℕ ℕ → ℕ
@@ -54,7 +54,8 @@ expr_functions (Expr-F.Cond test chosen other) = max test (max chosen other)
 expr_functions (Expr-F.Lambda index) = index + 1
 expr_functions (Expr-F.Attr container name) = container
 expr_functions (Expr-F.Expr::Index container at) = max container at
-expr_functions (Expr-F.Slice container begin end step) = max container (max (number_or_zero begin) (max (number_or_zero end) (number_or_zero step)))
+expr_functions (Expr-F.Slice container begin end step) =
+    max container (max (number_or_zero begin) (max (number_or_zero end) (number_or_zero step)))
 expr_functions (Expr-F.Call function args) = max function (greatest args)
 expr_functions _ = 0
 
@@ -70,7 +71,13 @@ target_functions (Target-F.Many targets) = greatest targets
 
 -- the indexes of functions in the trees of expressions
 abbrev pub expr_indexes : ExprValues ℕ ℕ ℕ ℕ ℕ
-expr_indexes = record { arg = arg_functions; clause = clause_functions; expr = expr_functions; target = target_functions; pair = pair_functions }
+expr_indexes = record {
+  arg = arg_functions;
+  clause = clause_functions;
+  expr = expr_functions;
+  target = target_functions;
+  pair = pair_functions;
+}
 
 -- those of an argument
 abbrev pub functions_of_arg : Arg → ℕ
@@ -95,11 +102,14 @@ functions_of_target = fold_target expr_indexes
 -- a `def` speaks of its function, and a statement of those of its parts
 abbrev pub kind_functions : StmtKind-F ℕ ℕ → ℕ
 kind_functions (StmtKind-F.Def index to) = index + 1
-kind_functions (StmtKind-F.If test chosen other) = max (functions_of_expr test) (max (greatest chosen) (greatest other))
-kind_functions (StmtKind-F.For to over body) = max (functions_of_target to) (max (functions_of_expr over) (greatest body))
+kind_functions (StmtKind-F.If test chosen other) =
+    max (functions_of_expr test) (max (greatest chosen) (greatest other))
+kind_functions (StmtKind-F.For to over body) =
+    max (functions_of_target to) (max (functions_of_expr over) (greatest body))
 kind_functions (StmtKind-F.Return value) = number_or_zero (option_map functions_of_expr value)
 kind_functions (StmtKind-F.Assign to value) = max (functions_of_target to) (functions_of_expr value)
-kind_functions (StmtKind-F.Augment to op value) = max (functions_of_expr to) (functions_of_expr value)
+kind_functions (StmtKind-F.Augment to op value) =
+    max (functions_of_expr to) (functions_of_expr value)
 kind_functions (StmtKind-F.Value value) = functions_of_expr value
 kind_functions _ = 0
 
@@ -127,9 +137,10 @@ functions_of_body (body.Value value) = functions_of_expr value
 
 -- those of the code of a function
 abbrev pub functions_of_code : FnCode → ℕ
-functions_of_code code = max (greatest (map functions_of_param code.params)) (functions_of_body code.body)
+functions_of_code code =
+    max (greatest (map functions_of_param code.params)) (functions_of_body code.body)
 
--- ---- loads: one more than the greatest index among the loads that stands in a tree, 0 where none does
+-- ---- loads: one more than the greatest index of a load in a tree, 0 where there is none
 
 -- a `load` speaks of itself, and a statement of those of its parts
 abbrev pub kind_loads : StmtKind-F ℕ ℕ → ℕ
@@ -161,7 +172,8 @@ loads_of_code code = loads_of_body code.body
 
 -- ---- files
 
--- Each index that stands in the body of a file or in the code of its functions is one of its functions or of its loads.
+-- Each index that stands in the body of a file or in the code of its functions is one of its
+-- functions or of its loads.
 pub record IndexesAreThere (file : File) : Type 0 where
   pub body_functions : greatest (map functions_of_stmt file.body) ≤ length file.functions
   pub body_loads : greatest (map loads_of_stmt file.body) ≤ length file.loads

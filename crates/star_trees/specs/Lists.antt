@@ -5,7 +5,8 @@ use Rattle.std.specs.List.{list_any}
 -- each name differs from those before it
 abbrev pub all_new : List (List ℕ) → List (List ℕ) → Bool
 all_new before [] = true
-all_new before (name ∷ names) = not (list_any (λ other. bytes_eq other name) before) && all_new (name ∷ before) names
+all_new before (name ∷ names) =
+    not (list_any (λ other. bytes_eq other name) before) && all_new (name ∷ before) names
 
 -- no name stands twice
 abbrev pub all_different : List (List ℕ) → Bool
@@ -26,6 +27,7 @@ abbrev pub some_and_all : List Bool → Bool
 some_and_all [] = false
 some_and_all (one ∷ more) = one && all_of more
 
--- an argument of the second stage may stand behind one of the first: positional 0, named 1, `*` 2, `**` 3
+-- an argument of the second stage may stand behind one of the first: positional 0, named 1, `*` 2,
+-- `**` 3
 abbrev pub may_follow : ℕ → ℕ → Bool
 may_follow last next = nat_lt last next || (last == next && nat_le next 1)

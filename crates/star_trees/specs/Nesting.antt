@@ -1,4 +1,5 @@
--- How deep the trees of a file are: what isn't split further counts 1, and a construct counts one more than its deepest part.
+-- How deep the trees of a file are: what isn't split further counts 1, and a construct counts one
+-- more than its deepest part.
 use Rattle.std.specs.Prelude.{ℕ, ◌+◌, ◌≤◌, max, map, option_map}
 use Rattle.star_trees.specs.Indexes.{greatest, number_or_zero}
 use Rattle.star_trees.specs.declared.files.File.{File}
@@ -46,7 +47,8 @@ expr_depth (Expr-F.Cond test chosen other) = max test (max chosen other) + 1
 expr_depth (Expr-F.Lambda index) = 1
 expr_depth (Expr-F.Attr container name) = container + 1
 expr_depth (Expr-F.Expr::Index container at) = max container at + 1
-expr_depth (Expr-F.Slice container begin end step) = max container (max (number_or_zero begin) (max (number_or_zero end) (number_or_zero step))) + 1
+expr_depth (Expr-F.Slice container begin end step) =
+    max container (max (number_or_zero begin) (max (number_or_zero end) (number_or_zero step))) + 1
 expr_depth (Expr-F.Call function args) = max function (greatest args) + 1
 
 -- a pair is as deep as its deeper part
@@ -61,7 +63,13 @@ target_depth (Target-F.Many targets) = greatest targets + 1
 
 -- the depths of the trees of expressions
 abbrev pub expr_depths : ExprValues ℕ ℕ ℕ ℕ ℕ
-expr_depths = record { arg = arg_depth; clause = clause_depth; expr = expr_depth; target = target_depth; pair = pair_depth }
+expr_depths = record {
+  arg = arg_depth;
+  clause = clause_depth;
+  expr = expr_depth;
+  target = target_depth;
+  pair = pair_depth;
+}
 
 -- the depth of an argument
 abbrev pub depth_of_arg : Arg → ℕ
@@ -86,8 +94,10 @@ depth_of_target = fold_target expr_depths
 -- a statement by what it says
 abbrev pub kind_depth : StmtKind-F ℕ ℕ → ℕ
 kind_depth (StmtKind-F.Def index to) = 1
-kind_depth (StmtKind-F.If test chosen other) = max (depth_of_expr test) (max (greatest chosen) (greatest other)) + 1
-kind_depth (StmtKind-F.For to over body) = max (depth_of_target to) (max (depth_of_expr over) (greatest body)) + 1
+kind_depth (StmtKind-F.If test chosen other) =
+    max (depth_of_expr test) (max (greatest chosen) (greatest other)) + 1
+kind_depth (StmtKind-F.For to over body) =
+    max (depth_of_target to) (max (depth_of_expr over) (greatest body)) + 1
 kind_depth (StmtKind-F.Return value) = number_or_zero (option_map depth_of_expr value) + 1
 kind_depth StmtKind-F.Break = 1
 kind_depth StmtKind-F.Continue = 1

@@ -1,4 +1,7 @@
--- What the grammar asks of trees besides, asked of resolved files: the order of arguments and parameters, names that differ, and what may stand only in a function, in a loop or at the top. The Starlark specification, "Function and method calls", "Function definitions", "Assignments", "Statements".
+-- What the grammar asks of trees besides, asked of resolved files: the order of arguments and
+-- parameters, names that differ, and what may stand only in a function, in a loop or at the top.
+-- The Starlark specification, "Function and method calls", "Function definitions", "Assignments",
+-- "Statements".
 use Rattle.std.specs.Prelude.{◌≡◌, ℕ, Bool, true, false, ◌&&◌, ◌==◌, nat_le, if◌then◌else◌, List, [], ◌∷◌, map, Option, Some, None, option_map}
 use Rattle.star_trees.specs.declared.files.File.{File}
 use Rattle.star_trees.specs.declared.files.FnBody.{FnBody}
@@ -40,7 +43,9 @@ stages_in_order last (stage ∷ stages) = may_follow last stage && stages_in_ord
 
 -- in order, and no name stands twice
 abbrev pub are_args : List ArgForm → Bool
-are_args args = stages_in_order 0 (map (λ arg. arg.stage) args) && all_different (given (map (λ arg. arg.name) args))
+are_args args =
+    stages_in_order 0 (map (λ arg. arg.stage) args)
+    && all_different (given (map (λ arg. arg.name) args))
 
 -- ---- expressions
 
@@ -91,8 +96,10 @@ expr_right (Expr-F.Cond test chosen other) = test && (chosen && other)
 expr_right (Expr-F.Lambda index) = true
 expr_right (Expr-F.Attr container name) = container
 expr_right (Expr-F.Expr::Index container at) = container && at
-expr_right (Expr-F.Slice container begin end step) = container && (maybe_right begin && (maybe_right end && maybe_right step))
-expr_right (Expr-F.Call function args) = function && (are_args args && all_of (map (λ arg. arg.right) args))
+expr_right (Expr-F.Slice container begin end step) =
+    container && (maybe_right begin && (maybe_right end && maybe_right step))
+expr_right (Expr-F.Call function args) =
+    function && (are_args args && all_of (map (λ arg. arg.right) args))
 
 -- both parts are right
 abbrev pub pair_right : ExprPair-F ArgForm ClauseForm Bool Bool Bool → Bool
@@ -106,7 +113,13 @@ target_right (Target-F.Many targets) = some_and_all targets
 
 -- the forms of the trees of expressions
 abbrev pub expr_forms : ExprValues ArgForm ClauseForm Bool Bool Bool
-expr_forms = record { arg = arg_form; clause = clause_form; expr = expr_right; target = target_right; pair = pair_right }
+expr_forms = record {
+  arg = arg_form;
+  clause = clause_form;
+  expr = expr_right;
+  target = target_right;
+  pair = pair_right;
+}
 
 -- the form of an argument
 abbrev pub form_of_arg : Arg → ArgForm
@@ -145,18 +158,23 @@ abbrev pub all_stand : List (Inside → Bool) → Inside → Bool
 all_stand [] inside = true
 all_stand (one ∷ more) inside = one inside && all_stand more inside
 
--- `return` stands in a function, `break` and `continue` in a loop of the same function, and `load` at the top
+-- `return` stands in a function, `break` and `continue` in a loop of the same function, and `load`
+-- at the top
 abbrev pub kind_stands : StmtKind-F (Inside → Bool) (Inside → Bool) → Inside → Bool
 kind_stands (StmtKind-F.Def index to) inside = true
-kind_stands (StmtKind-F.If test chosen other) inside = right_expr test && (all_stand chosen (in_branch inside) && all_stand other (in_branch inside))
-kind_stands (StmtKind-F.For to over body) inside = right_target to && (right_expr over && all_stand body (in_loop inside))
-kind_stands (StmtKind-F.Return value) inside = inside.function && maybe_right (option_map right_expr value)
+kind_stands (StmtKind-F.If test chosen other) inside =
+    right_expr test && (all_stand chosen (in_branch inside) && all_stand other (in_branch inside))
+kind_stands (StmtKind-F.For to over body) inside =
+    right_target to && (right_expr over && all_stand body (in_loop inside))
+kind_stands (StmtKind-F.Return value) inside =
+    inside.function && maybe_right (option_map right_expr value)
 kind_stands StmtKind-F.Break inside = inside.looping
 kind_stands StmtKind-F.Continue inside = inside.looping
 kind_stands StmtKind-F.Pass inside = true
 kind_stands (StmtKind-F.Load index) inside = inside.top
 kind_stands (StmtKind-F.Assign to value) inside = right_target to && right_expr value
-kind_stands (StmtKind-F.Augment to op value) inside = is_assignable to && (right_expr to && right_expr value)
+kind_stands (StmtKind-F.Augment to op value) inside =
+    is_assignable to && (right_expr to && right_expr value)
 kind_stands (StmtKind-F.Value value) inside = right_expr value
 
 -- where statements may stand
@@ -173,10 +191,13 @@ stands = fold_stmt stmt_forms
 
 -- ---- functions
 
--- the stage that a parameter is at behind one of the given stage, unless it may not stand there: required 0, optional 1, `*` 2, keyword-only 3, `**` 4
+-- the stage that a parameter is at behind one of the given stage, unless it may not stand there:
+-- required 0, optional 1, `*` 2, keyword-only 3, `**` 4
 abbrev pub param_stage : ℕ → Param → Option ℕ
-param_stage last (param.Required name) = if last == 0 then Some 0 else (if nat_le 2 last && nat_le last 3 then Some 3 else None)
-param_stage last (param.Optional name default) = if nat_le last 1 then Some 1 else (if nat_le last 3 then Some 3 else None)
+param_stage last (param.Required name) =
+    if last == 0 then Some 0 else (if nat_le 2 last && nat_le last 3 then Some 3 else None)
+param_stage last (param.Optional name default) =
+    if nat_le last 1 then Some 1 else (if nat_le last 3 then Some 3 else None)
 param_stage last param.Bare = if nat_le last 1 then Some 2 else None
 param_stage last (param.Rest name) = if nat_le last 1 then Some 2 else None
 param_stage last (param.Keywords name) = if nat_le last 3 then Some 4 else None
@@ -216,9 +237,12 @@ right_body None (body.Value value) = right_expr value
 
 -- the parameters are in order, their defaults are right, and so is the body
 abbrev pub right_code : FnCode → Bool
-right_code code = are_params code.params && (all_of (map right_param code.params) && right_body code.name code.body)
+right_code code =
+    are_params code.params
+    && (all_of (map right_param code.params) && right_body code.name code.body)
 
--- Each statement of the file may stand at the top, and each of its functions is a `def` or a `lambda` that may stand.
+-- Each statement of the file may stand at the top, and each of its functions is a `def` or a
+-- `lambda` that may stand.
 pub record HasNoRefusedForm (file : File) : Type 0 where
   pub body : all_stand (map stands file.body) at_top ≡ true
   pub functions : all_of (map right_code file.functions) ≡ true

@@ -1,4 +1,5 @@
--- What stands round a statement, which says where `break`, `continue`, `return` and `load` may stand.
+-- What stands round a statement, which says where `break`, `continue`, `return` and `load` may
+-- stand.
 use Rattle.std.specs.Prelude.{true, false}
 use Rattle.star_trees.specs.declared.inside.Inside.{Inside}
 
