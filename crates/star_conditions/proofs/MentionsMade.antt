@@ -19,13 +19,17 @@ pub count-append : (i : ℕ) (xs ys : List Mention)
 count-append i [] ys = omega arith
 count-append i (x ∷ xs) ys = let more = count-append i xs ys in omega (arith, more)
 
+-- the functions of which some codes speak
+abbrev pub of_codes : List FnCode → List Mention
+of_codes codes = all_mentions (map mentions_of_code codes)
+
 all_mentions-append : (xs ys : List FnCode)
-    → all_mentions (map mentions_of_code (xs ++ ys)) ≡ all_mentions (map mentions_of_code xs) ++
-      all_mentions (map mentions_of_code ys)
+    → of_codes (xs ++ ys) ≡ of_codes xs ++
+      of_codes ys
 all_mentions-append [] ys = refl
 all_mentions-append (x ∷ xs) ys =
     ap (λ more. mentions_of_code x ++ more) (all_mentions-append xs ys)
-    ∙ sym (append_assoc (mentions_of_code x) (all_mentions (map mentions_of_code xs)) (all_mentions (map mentions_of_code ys)))
+    ∙ sym (append_assoc (mentions_of_code x) (of_codes xs) (of_codes ys))
 
 -- 1 for an index below a number, and else 0
 pub below : ℕ → ℕ → ℕ
@@ -95,22 +99,25 @@ all-behind : (before after more : List FnCode)
     → All (Fits before) mentions
     → All (Fits after) mentions
 all-behind before after more is mentions all =
-    All-weaker (Fits before) (Fits after) (λ mention so. subst (λ functions. Fits functions mention) (sym is) (code-behind mention.defines before more mention.index so)) mentions all
+    All-weaker (Fits before) (Fits after) (λ mention so.
+        subst (λ functions. Fits functions mention) (sym is)
+        (code-behind mention.defines before more mention.index so)) mentions all
 
 -- ---- makings
 
 -- what holds after a value is made that is to speak of functions that are known and of those that
 -- are added
-pub record Told {A : Type 0} (mentions : A → List Mention) (known : List Mention) (before : Lists) (made : A × Lists) : Type 0 where
+pub record Told {A : Type 0} (mentions : A → List Mention) (known : List Mention)
+    (before : Lists) (made : A × Lists) : Type 0 where
   pub more : List FnCode
   pub is : made.1.functions ≡ before.functions ++ more
   pub counted : (i : ℕ)
       → mention_count i (mentions made.0) + mention_count i
-        (all_mentions (map mentions_of_code more)) + below (length before.functions) i ≡
+        (of_codes more) + below (length before.functions) i ≡
         mention_count i known + below (length before.functions + length more) i
   pub value_fits : All (Fits before.functions) known → All (Fits made.1.functions) (mentions made.0)
   pub codes_fit : All (Fits before.functions) known
-      → All (Fits made.1.functions) (all_mentions (map mentions_of_code more))
+      → All (Fits made.1.functions) (of_codes more)
 
 -- a making whose value speaks of what is known and of what it adds
 abbrev pub Tells : {A : Type 0} → (A → List Mention) → List Mention → Making A → Type 0
@@ -144,32 +151,44 @@ then {f} {g} {known} {making} {next} tells goes lists =
     let between = (making lists).1.functions in
     let second = goes a (making lists).1 in
     let after = (next a (making lists).1).1.functions in
-    let both : (all : All (Fits before) known) → All (Fits between) (known ++ f a) = λ all. All-append (Fits between) known (f a) (all-behind before between first.more first.is known all) (first.value_fits (All-nil (Fits before))) in
+    let both : All (Fits before) known → All (Fits between) (known ++ f a) = λ all.
+        All-append (Fits between) known (f a)
+        (all-behind before between first.more first.is known all)
+        (first.value_fits (All-nil (Fits before))) in
     record {
       more = first.more ++ second.more;
-      is = second.is ∙ ap (λ functions. functions ++ second.more) first.is ∙ append_assoc before first.more second.more;
+      is =
+          second.is ∙ ap (λ functions. functions ++ second.more) first.is
+          ∙ append_assoc before first.more second.more;
       counted = λ i.
           let long = ap length first.is ∙ length-append before first.more in
           let one = first.counted i in
           let two = second.counted i in
           let split = count-append i known (f a) in
-          let codes = ap (mention_count i) (all_mentions-append first.more second.more) ∙ count-append i (all_mentions (map mentions_of_code first.more)) (all_mentions (map mentions_of_code second.more)) in
+          let codes =
+              ap (mention_count i) (all_mentions-append first.more second.more)
+              ∙ count-append i (of_codes first.more) (of_codes second.more) in
           let here = ap (λ n. below n i) long in
-          let end_length : length between + length second.more ≡ length before + length (first.more ++ second.more) = omega (arith, long, length-append first.more second.more) in
+          let end_length :
+              length between + length second.more ≡ length before + length (first.more ++ second.more)
+              = omega (arith, long, length-append first.more second.more) in
           let end = ap (λ n. below n i) end_length in
           omega (arith, one, two, split, codes, here, end);
       value_fits = λ all. second.value_fits (both all);
       codes_fit = λ all.
           All-same (Fits after) _ _ (all_mentions-append first.more second.more)
-          (All-append (Fits after) (all_mentions (map mentions_of_code first.more)) (all_mentions (map mentions_of_code second.more))
-          (all-behind between after second.more second.is _ (first.codes_fit (All-nil (Fits before))))
+          (All-append (Fits after) (of_codes first.more) (of_codes second.more)
+          (all-behind between after second.more second.is (of_codes first.more)
+          (first.codes_fit (All-nil (Fits before))))
           (second.codes_fit (both all)));
     }
 
 pub each-tells :
     {A B C : Type 0} {P : C → Type 0} (f : A → List Mention) (make : B → Making A) (means : C → B)
     → ((c : C) → P c → Tells f [] (make (means c)))
-    → (items : List ((c : C) × P c)) → Tells (λ made. all_mentions (map f made)) [] (each (map make (map means (map (λ item. item.0) items))))
+    → (items : List ((c : C) × P c))
+    → Tells (λ made. all_mentions (map f made)) []
+      (each (map make (map means (map (λ item. item.0) items))))
 each-tells f make means tells [] = done [] refl
 each-tells f make means tells (item ∷ more) =
     then {f = f} (tells item.0 item.1) (λ a.
@@ -178,7 +197,8 @@ each-tells f make means tells (item ∷ more) =
 
 pub each-surely : {A B C : Type 0} (f : A → List Mention) (make : B → Making A) (means : C → B)
     → ((c : C) → Tells f [] (make (means c)))
-    → (items : List C) → Tells (λ made. all_mentions (map f made)) [] (each (map make (map means items)))
+    → (items : List C)
+    → Tells (λ made. all_mentions (map f made)) [] (each (map make (map means items)))
 each-surely f make means tells [] = done [] refl
 each-surely f make means tells (item ∷ more) =
     then {f = f} (tells item) (λ a.
@@ -190,8 +210,12 @@ pub function-tells :
     {A B : Type 0} {f : A → List Mention} {mentions : B → List Mention} (defines : Bool)
     (inner : Making A) (code : A → FnCode) (result : ℕ → B)
     → Tells f [] inner
-    → ((a : A) → mentions_of_code (code a) ≡ f a) → ((a : A) → is_code_of defines (code a) ≡ true) → ((index : ℕ) → mentions (result index) ≡ record { defines = defines; index = index } ∷ [])
-    → Tells mentions [] (begin >>= (λ index. inner >>= (λ a. finish index (code a) >> pure (result index))))
+    → ((a : A) → mentions_of_code (code a) ≡ f a)
+    → ((a : A) → is_code_of defines (code a) ≡ true)
+    → ((index : ℕ)
+      → mentions (result index) ≡ record { defines = defines; index = index } ∷ [])
+    → Tells mentions []
+      (begin >>= (λ index. inner >>= (λ a. finish index (code a) >> pure (result index))))
 function-tells {f} {mentions} defines inner code result tells codes right results lists =
     let functions = lists.functions in
     let n = length functions in
@@ -199,11 +223,16 @@ function-tells {f} {mentions} defines inner code result tells codes right result
     let parts = tells begins in
     let a = (inner begins).0 in
     let put = code a in
-    let rest = all_mentions (map mentions_of_code parts.more) in
-    let is : set (inner begins).1.functions n put ≡ functions ++ put ∷ parts.more = ap (λ all. set all n put) parts.is ∙ set-behind functions parts.more put in
+    let rest = of_codes parts.more in
+    let is : set (inner begins).1.functions n put ≡ functions ++ put ∷ parts.more =
+        ap (λ all. set all n put) parts.is ∙ set-behind functions parts.more put in
     let after = set (inner begins).1.functions n put in
-    let stays : (mention : Mention) → Fits (inner begins).1.functions mention → Fits after mention = λ mention so.
-        subst (λ all. Fits all mention) (sym is) (code-put mention.defines functions parts.more put mention.index (subst (λ all. Fits all mention) parts.is so)) in
+    let parted = (inner begins).1.functions in
+    let stays : (mention : Mention) → Fits parted mention → Fits after mention =
+        λ mention so.
+        subst (λ all. Fits all mention) (sym is)
+        (code-put mention.defines functions parts.more put mention.index
+        (subst (λ all. Fits all mention) parts.is so)) in
     record {
       more = put ∷ parts.more;
       is = is;
@@ -214,19 +243,28 @@ function-tells {f} {mentions} defines inner code result tells codes right result
           let one = parts.counted i in
           let next = one-more n i in
           let long = length-append functions (unfinished_code ∷ []) in
-          let here_length : length (functions ++ unfinished_code ∷ []) ≡ suc n = omega (arith, long) in
+          let here_length : length (functions ++ unfinished_code ∷ []) ≡ suc n =
+              omega (arith, long) in
           let here = ap (λ k. below k i) here_length in
-          let end_length : length (functions ++ unfinished_code ∷ []) + length parts.more ≡ n + suc (length parts.more) = omega (arith, long) in
+          let end_length :
+              length (functions ++ unfinished_code ∷ []) + length parts.more
+              ≡ n + suc (length parts.more) = omega (arith, long) in
           let end = ap (λ k. below k i) end_length in
           omega (arith, value, split, own, one, next, here, end);
       value_fits = λ all.
-          All-same (Fits after) _ _ (results n) (All-cons (Fits after) (record { defines = defines; index = n }) []
-          (subst (λ all. is_code_of defines (get_or all n unfinished_code) ≡ true) (sym is) (subst (λ one. is_code_of defines one ≡ true) (sym (get_or-append_seam functions put parts.more unfinished_code)) (right a)))
+          All-same (Fits after) _ _ (results n)
+          (All-cons (Fits after) (record { defines = defines; index = n }) []
+          (subst (λ all. is_code_of defines (get_or all n unfinished_code) ≡ true) (sym is)
+          (subst (λ one. is_code_of defines one ≡ true)
+          (sym (get_or-append_seam functions put parts.more unfinished_code)) (right a)))
           (All-nil (Fits after)));
       codes_fit = λ all.
           All-append (Fits after) (mentions_of_code put) rest
-          (All-same (Fits after) _ _ (codes a) (All-weaker (Fits (inner begins).1.functions) (Fits after) stays (f a) (parts.value_fits (All-nil (Fits begins.functions)))))
-          (All-weaker (Fits (inner begins).1.functions) (Fits after) stays rest (parts.codes_fit (All-nil (Fits begins.functions))));
+          (All-same (Fits after) _ _ (codes a)
+          (All-weaker (Fits parted) (Fits after) stays (f a)
+          (parts.value_fits (All-nil (Fits begins.functions)))))
+          (All-weaker (Fits parted) (Fits after) stays rest
+          (parts.codes_fit (All-nil (Fits begins.functions))));
     }
 
 pub load-tells : (loaded : Load) → Tells (λ index. []) [] (load loaded)
