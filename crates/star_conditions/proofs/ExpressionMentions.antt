@@ -73,7 +73,7 @@ module _ (free : Names) (scopes : List Names) where
 
   pub pairs-tells : (pairs : List ToldPair)
       → Tells (of_each mentions_of_pair) []
-        (pairs_made free scopes (map pair_meaning (map bare pairs)))
+      (pairs_made free scopes (map pair_meaning (map bare pairs)))
   unfolding pairs_made
   pairs-tells = each-tells mentions_of_pair (λ pair. pair.pair free scopes) pair_meaning (λ tree tells. tells.pair free scopes)
 
@@ -84,19 +84,19 @@ module _ (free : Names) (scopes : List Names) where
 
   pub params-tells : (params : List ToldParam)
       → Tells (of_each mentions_of_param) []
-        (params_made free scopes (map param_meaning (map bare params)))
+      (params_made free scopes (map param_meaning (map bare params)))
   unfolding params_made
   params-tells = each-tells mentions_of_param (λ param. param.param free scopes) param_meaning (λ tree tells. tells.param free scopes)
 
   pub targets-tells : (targets : List ToldExpr)
       → Tells (of_each mentions_of_target) []
-        (targets_made free scopes (map meaning (map bare targets)))
+      (targets_made free scopes (map meaning (map bare targets)))
   unfolding targets_made
   targets-tells = each-tells mentions_of_target (λ target. target.target free scopes) meaning (λ tree tells. tells.target free scopes)
 
   pub maybe-tells : (bound : Option ToldExpr)
       → Tells (λ made. maybe_mentions (option_map mentions_of_expr made)) []
-        (maybe_made free scopes (option_map meaning (option_map bare bound)))
+      (maybe_made free scopes (option_map meaning (option_map bare bound)))
   unfolding maybe_made
   maybe-tells None = done None refl
   maybe-tells (Some bound) = then (bound.1.expr free scopes) (λ made. done (Some made) refl)
@@ -121,13 +121,13 @@ module _ (free : Names) (scopes : List Names) where
 
   pub more_clauses-tells : (inner : List Names) (clauses : List ToldClause)
       → Tells (of_each mentions_of_clause) []
-        (more_clauses_made free scopes inner (map clause_meaning (map bare clauses)))
+      (more_clauses_made free scopes inner (map clause_meaning (map bare clauses)))
   unfolding more_clauses_made
   more_clauses-tells inner = each-tells mentions_of_clause (λ clause. clause.clause free inner inner) clause_meaning (λ tree tells. tells.clause free inner inner)
 
   pub some_clauses-tells : (inner : List Names) (first : ToldClause) (more : List ToldClause)
       → Tells (of_each mentions_of_clause) []
-        (some_clauses_made free scopes inner (clause_meaning first.0) (map clause_meaning (map bare more)))
+      (some_clauses_made free scopes inner (clause_meaning first.0) (map clause_meaning (map bare more)))
   unfolding some_clauses_made
   some_clauses-tells inner first more =
       then (first.1.clause free inner scopes) (λ made.
@@ -136,14 +136,14 @@ module _ (free : Names) (scopes : List Names) where
 
   pub clauses-tells : (inner : List Names) (clauses : List ToldClause)
       → Tells (of_each mentions_of_clause) []
-        (clauses_made free scopes inner (map clause_meaning (map bare clauses)))
+      (clauses_made free scopes inner (map clause_meaning (map bare clauses)))
   unfolding clauses_made
   clauses-tells inner [] = done [] refl
   clauses-tells inner (first ∷ more) = some_clauses-tells inner first more
 
   pub list_comp-tells : (item : ToldExpr) (clauses : List ToldClause)
       → Tells mentions_of_expr []
-        (list_comp_made free scopes (meaning item.0) (map clause_meaning (map bare clauses)))
+      (list_comp_made free scopes (meaning item.0) (map clause_meaning (map bare clauses)))
   unfolding list_comp_made
   list_comp-tells item clauses =
       let inner = variables (map (λ clause. clause.bound) (map clause_meaning (map bare clauses))) ∷ scopes in
@@ -153,7 +153,7 @@ module _ (free : Names) (scopes : List Names) where
 
   pub dict_comp-tells : (key value : ToldExpr) (clauses : List ToldClause)
       → Tells mentions_of_expr []
-        (dict_comp_made free scopes (meaning key.0) (meaning value.0) (map clause_meaning (map bare clauses)))
+      (dict_comp_made free scopes (meaning key.0) (meaning value.0) (map clause_meaning (map bare clauses)))
   unfolding dict_comp_made
   dict_comp-tells key value clauses =
       let inner = variables (map (λ clause. clause.bound) (map clause_meaning (map bare clauses))) ∷ scopes in
@@ -177,7 +177,7 @@ module _ (free : Names) (scopes : List Names) where
 
   pub cond-tells : (test chosen other : ToldExpr)
       → Tells mentions_of_expr []
-        (cond_made free scopes (meaning test.0) (meaning chosen.0) (meaning other.0))
+      (cond_made free scopes (meaning test.0) (meaning chosen.0) (meaning other.0))
   unfolding cond_made
   cond-tells test chosen other =
       then (chosen.1.expr free scopes) (λ made_chosen.
@@ -187,7 +187,7 @@ module _ (free : Names) (scopes : List Names) where
 
   pub lambda-tells : (params : List ToldParam) (body : ToldExpr) (line : ℕ)
       → Tells mentions_of_expr []
-        (lambda_made free scopes (map param_meaning (map bare params)) (meaning body.0) line)
+      (lambda_made free scopes (map param_meaning (map bare params)) (meaning body.0) line)
   unfolding lambda_made
   lambda-tells params body line =
       let inner = variables (map (λ param. param.bound) (map param_meaning (map bare params))) ∷ scopes in
@@ -215,7 +215,7 @@ module _ (free : Names) (scopes : List Names) where
 
   pub slice-tells : (container : ToldExpr) (begin end step : Option ToldExpr)
       → Tells mentions_of_expr []
-        (slice_made free scopes (meaning container.0) (option_map meaning (option_map bare begin)) (option_map meaning (option_map bare end)) (option_map meaning (option_map bare step)))
+      (slice_made free scopes (meaning container.0) (option_map meaning (option_map bare begin)) (option_map meaning (option_map bare end)) (option_map meaning (option_map bare step)))
   unfolding slice_made
   slice-tells container begin end step =
       then (container.1.expr free scopes) (λ made.
@@ -226,7 +226,7 @@ module _ (free : Names) (scopes : List Names) where
 
   pub call-tells : (function : ToldExpr) (args : List ToldArg)
       → Tells mentions_of_expr []
-        (call_made free scopes (meaning function.0) (map arg_meaning (map bare args)))
+      (call_made free scopes (meaning function.0) (map arg_meaning (map bare args)))
   unfolding call_made
   call-tells function args =
       then (function.1.expr free scopes) (λ made.
@@ -267,7 +267,7 @@ module _ (free : Names) (scopes : List Names) where
 
 pub for_clause-tells : (free : Names) (inner around : List Names) (to over : ToldExpr)
     → Tells mentions_of_clause []
-      (for_clause_made free inner around (meaning to.0) (meaning over.0))
+    (for_clause_made free inner around (meaning to.0) (meaning over.0))
 unfolding for_clause_made
 for_clause-tells free inner around to over =
     then (to.1.target free inner) (λ made_to.
@@ -280,7 +280,7 @@ expr-layer :
     (layer : ExprParts ArgTells ClauseTells ExprTells ParamTells PairTells) (free : Names)
     (scopes : List Names)
     → Tells mentions_of_expr []
-      (expr_made (meant-expr ArgTells ClauseTells ExprTells ParamTells PairTells layer) free scopes)
+    (expr_made (meant-expr ArgTells ClauseTells ExprTells ParamTells PairTells layer) free scopes)
 expr-layer (BareExpr-F.Name name) free scopes =
     done _ (is.fold_expr-Name exprs_mention (variable free scopes name.name))
 expr-layer (BareExpr-F.Int value) free scopes = done _ (is.fold_expr-Int exprs_mention value)
@@ -325,7 +325,7 @@ target-layer :
     (layer : ExprParts ArgTells ClauseTells ExprTells ParamTells PairTells) (free : Names)
     (scopes : List Names)
     → Tells mentions_of_target []
-      (target_made (meant-expr ArgTells ClauseTells ExprTells ParamTells PairTells layer) free scopes)
+    (target_made (meant-expr ArgTells ClauseTells ExprTells ParamTells PairTells layer) free scopes)
 target-layer (BareExpr-F.Name name) free scopes =
     done _ (is.fold_target-Name exprs_mention (variable free scopes name.name))
 target-layer (BareExpr-F.Index container at) free scopes =
@@ -339,7 +339,7 @@ arg-layer :
     (layer : ArgParts ArgTells ClauseTells ExprTells ParamTells PairTells) (free : Names)
     (scopes : List Names)
     → Tells mentions_of_arg []
-      (arg_made (meant-arg ArgTells ClauseTells ExprTells ParamTells PairTells layer) free scopes)
+    (arg_made (meant-arg ArgTells ClauseTells ExprTells ParamTells PairTells layer) free scopes)
 arg-layer (BareArg-F.Positional value) free scopes = then (value.1.expr free scopes) (λ made. done (arg_tree.Positional made) (is.fold_arg-Positional exprs_mention made))
 arg-layer (BareArg-F.Named name value) free scopes = named_arg-tells free scopes name value
 arg-layer (BareArg-F.Star value line) free scopes = then (value.1.expr free scopes) (λ made. done (arg_tree.Star made) (is.fold_arg-Star exprs_mention made))
@@ -349,7 +349,7 @@ param-layer :
     (layer : ParamParts ArgTells ClauseTells ExprTells ParamTells PairTells) (free : Names)
     (scopes : List Names)
     → Tells mentions_of_param []
-      (param_made (meant-param ArgTells ClauseTells ExprTells ParamTells PairTells layer) free scopes)
+    (param_made (meant-param ArgTells ClauseTells ExprTells ParamTells PairTells layer) free scopes)
 param-layer (BareParam-F.Required name) free scopes = done _ refl
 param-layer (BareParam-F.Optional name default) free scopes =
     optional-tells free scopes name default
@@ -361,7 +361,7 @@ clause-layer :
     (layer : ClauseParts ArgTells ClauseTells ExprTells ParamTells PairTells) (free : Names)
     (inner around : List Names)
     → Tells mentions_of_clause []
-      (clause_made (meant-clause ArgTells ClauseTells ExprTells ParamTells PairTells layer) free inner around)
+    (clause_made (meant-clause ArgTells ClauseTells ExprTells ParamTells PairTells layer) free inner around)
 clause-layer (BareClause-F.For to over) free inner around =
     for_clause-tells free inner around to over
 clause-layer (BareClause-F.If test) free inner around = then (test.1.expr free inner) (λ made. done (clause_tree.If made) (is.fold_clause-If exprs_mention made))
@@ -374,7 +374,7 @@ arg-tells layer = record { arg = arg-layer layer }
 
 clause-tells : (layer : ClauseParts ArgTells ClauseTells ExprTells ParamTells PairTells)
     → ClauseTells
-      (clause_step (meant-clause ArgTells ClauseTells ExprTells ParamTells PairTells layer))
+    (clause_step (meant-clause ArgTells ClauseTells ExprTells ParamTells PairTells layer))
 clause-tells layer = record { clause = clause-layer layer }
 
 layer-tells : (layer : ExprParts ArgTells ClauseTells ExprTells ParamTells PairTells)
@@ -383,7 +383,7 @@ layer-tells layer = record { expr = expr-layer layer; target = target-layer laye
 
 one_param-tells : (layer : ParamParts ArgTells ClauseTells ExprTells ParamTells PairTells)
     → ParamTells
-      (param_step (meant-param ArgTells ClauseTells ExprTells ParamTells PairTells layer))
+    (param_step (meant-param ArgTells ClauseTells ExprTells ParamTells PairTells layer))
 one_param-tells layer = record { param = param-layer layer }
 
 one_pair-tells : (layer : PairParts ArgTells ClauseTells ExprTells ParamTells PairTells)

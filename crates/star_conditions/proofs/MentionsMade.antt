@@ -25,7 +25,7 @@ of_codes codes = all_mentions (map mentions_of_code codes)
 
 all_mentions-append : (xs ys : List FnCode)
     → of_codes (xs ++ ys) ≡ of_codes xs ++
-      of_codes ys
+    of_codes ys
 all_mentions-append [] ys = refl
 all_mentions-append (x ∷ xs) ys =
     ap (λ more. mentions_of_code x ++ more) (all_mentions-append xs ys)
@@ -100,8 +100,8 @@ all-behind : (before after more : List FnCode)
     → All (Fits after) mentions
 all-behind before after more is mentions all =
     All-weaker (Fits before) (Fits after) (λ mention so.
-        subst (λ functions. Fits functions mention) (sym is)
-        (code-behind mention.defines before more mention.index so)) mentions all
+    subst (λ functions. Fits functions mention) (sym is)
+    (code-behind mention.defines before more mention.index so)) mentions all
 
 -- ---- makings
 
@@ -113,8 +113,8 @@ pub record Told {A : Type 0} (mentions : A → List Mention) (known : List Menti
   pub is : made.1.functions ≡ before.functions ++ more
   pub counted : (i : ℕ)
       → mention_count i (mentions made.0) + mention_count i
-        (of_codes more) + below (length before.functions) i ≡
-        mention_count i known + below (length before.functions + length more) i
+      (of_codes more) + below (length before.functions) i ≡
+      mention_count i known + below (length before.functions + length more) i
   pub value_fits : All (Fits before.functions) known → All (Fits made.1.functions) (mentions made.0)
   pub codes_fit : All (Fits before.functions) known
       → All (Fits made.1.functions) (of_codes more)
@@ -152,9 +152,9 @@ then {f} {g} {known} {making} {next} tells goes lists =
     let second = goes a (making lists).1 in
     let after = (next a (making lists).1).1.functions in
     let both : All (Fits before) known → All (Fits between) (known ++ f a) = λ all.
-        All-append (Fits between) known (f a)
-        (all-behind before between first.more first.is known all)
-        (first.value_fits (All-nil (Fits before))) in
+    All-append (Fits between) known (f a)
+    (all-behind before between first.more first.is known all)
+    (first.value_fits (All-nil (Fits before))) in
     record {
       more = first.more ++ second.more;
       is =
@@ -166,12 +166,12 @@ then {f} {g} {known} {making} {next} tells goes lists =
           let two = second.counted i in
           let split = count-append i known (f a) in
           let codes =
-              ap (mention_count i) (all_mentions-append first.more second.more)
-              ∙ count-append i (of_codes first.more) (of_codes second.more) in
+          ap (mention_count i) (all_mentions-append first.more second.more)
+          ∙ count-append i (of_codes first.more) (of_codes second.more) in
           let here = ap (λ n. below n i) long in
           let end_length :
-              length between + length second.more ≡ length before + length (first.more ++ second.more)
-              = omega (arith, long, length-append first.more second.more) in
+          length between + length second.more ≡ length before + length (first.more ++ second.more)
+          = omega (arith, long, length-append first.more second.more) in
           let end = ap (λ n. below n i) end_length in
           omega (arith, one, two, split, codes, here, end);
       value_fits = λ all. second.value_fits (both all);
@@ -188,7 +188,7 @@ pub each-tells :
     → ((c : C) → P c → Tells f [] (make (means c)))
     → (items : List ((c : C) × P c))
     → Tells (λ made. all_mentions (map f made)) []
-      (each (map make (map means (map (λ item. item.0) items))))
+    (each (map make (map means (map (λ item. item.0) items))))
 each-tells f make means tells [] = done [] refl
 each-tells f make means tells (item ∷ more) =
     then {f = f} (tells item.0 item.1) (λ a.
@@ -213,9 +213,9 @@ pub function-tells :
     → ((a : A) → mentions_of_code (code a) ≡ f a)
     → ((a : A) → is_code_of defines (code a) ≡ true)
     → ((index : ℕ)
-      → mentions (result index) ≡ record { defines = defines; index = index } ∷ [])
+    → mentions (result index) ≡ record { defines = defines; index = index } ∷ [])
     → Tells mentions []
-      (begin >>= (λ index. inner >>= (λ a. finish index (code a) >> pure (result index))))
+    (begin >>= (λ index. inner >>= (λ a. finish index (code a) >> pure (result index))))
 function-tells {f} {mentions} defines inner code result tells codes right results lists =
     let functions = lists.functions in
     let n = length functions in
@@ -225,14 +225,14 @@ function-tells {f} {mentions} defines inner code result tells codes right result
     let put = code a in
     let rest = of_codes parts.more in
     let is : set (inner begins).1.functions n put ≡ functions ++ put ∷ parts.more =
-        ap (λ all. set all n put) parts.is ∙ set-behind functions parts.more put in
+    ap (λ all. set all n put) parts.is ∙ set-behind functions parts.more put in
     let after = set (inner begins).1.functions n put in
     let parted = (inner begins).1.functions in
     let stays : (mention : Mention) → Fits parted mention → Fits after mention =
-        λ mention so.
-        subst (λ all. Fits all mention) (sym is)
-        (code-put mention.defines functions parts.more put mention.index
-        (subst (λ all. Fits all mention) parts.is so)) in
+    λ mention so.
+    subst (λ all. Fits all mention) (sym is)
+    (code-put mention.defines functions parts.more put mention.index
+    (subst (λ all. Fits all mention) parts.is so)) in
     record {
       more = put ∷ parts.more;
       is = is;
@@ -244,11 +244,11 @@ function-tells {f} {mentions} defines inner code result tells codes right result
           let next = one-more n i in
           let long = length-append functions (unfinished_code ∷ []) in
           let here_length : length (functions ++ unfinished_code ∷ []) ≡ suc n =
-              omega (arith, long) in
+          omega (arith, long) in
           let here = ap (λ k. below k i) here_length in
           let end_length :
-              length (functions ++ unfinished_code ∷ []) + length parts.more
-              ≡ n + suc (length parts.more) = omega (arith, long) in
+          length (functions ++ unfinished_code ∷ []) + length parts.more
+          ≡ n + suc (length parts.more) = omega (arith, long) in
           let end = ap (λ k. below k i) end_length in
           omega (arith, value, split, own, one, next, here, end);
       value_fits = λ all.

@@ -55,13 +55,13 @@ module _ (free : Names) (scopes : List Names) where
 
   body-tells : (body : List ToldStmt)
       → Tells (of_each mentions_of_stmt) []
-        (body_made free scopes (map stmt_meaning (map bare body)))
+      (body_made free scopes (map stmt_meaning (map bare body)))
   unfolding body_made
   body-tells = each-tells mentions_of_stmt (λ statement. statement.stmt free scopes) stmt_meaning (λ tree tells. tells.stmt free scopes)
 
   if-tells : (test : BareExpr) (chosen other : List ToldStmt)
       → Tells mentions_of_kind []
-        (if_made free scopes test (map stmt_meaning (map bare chosen)) (map stmt_meaning (map bare other)))
+      (if_made free scopes test (map stmt_meaning (map bare chosen)) (map stmt_meaning (map bare other)))
   unfolding if_made
   if-tells test chosen other =
       then ((expr-tells test).expr free scopes) (λ made.
@@ -112,7 +112,7 @@ def-tells :
     (free : Names) (scopes : List Names) (name : BareName) (params : List BareParam)
     (body : List ToldStmt) (line : ℕ)
     → Tells mentions_of_kind []
-      (def_made free scopes name params (map stmt_meaning (map bare body)) line)
+    (def_made free scopes name params (map stmt_meaning (map bare body)) line)
 unfolding def_made
 def-tells free scopes name params body line =
     let inner = function_variables (map (λ param. param.bound) (map param_meaning params)) (map (λ one. one.bound) (map stmt_meaning (map bare body))) ∷ scopes in

@@ -51,32 +51,32 @@ module _ {A C E T P : Type 0} (values : ExprValues A C E T P) where
 
   pub fold_expr-ListComp : (item : Expr) (clauses : List Clause)
       → fold_expr values (e.ListComp item clauses) ≡ values.expr
-        (Expr-F.ListComp (fold_expr values item) (map (fold_clause values) clauses))
+      (Expr-F.ListComp (fold_expr values item) (map (fold_clause values) clauses))
   unfolding fold_arg fold_clause fold_expr fold_pair fold_target
   fold_expr-ListComp item clauses = search (rules, the_lemmas)
 
   pub fold_expr-DictComp : (key value : Expr) (clauses : List Clause)
       → fold_expr values (e.DictComp key value clauses) ≡ values.expr
-        (Expr-F.DictComp (fold_expr values key) (fold_expr values value)
-        (map (fold_clause values) clauses))
+      (Expr-F.DictComp (fold_expr values key) (fold_expr values value)
+      (map (fold_clause values) clauses))
   unfolding fold_arg fold_clause fold_expr fold_pair fold_target
   fold_expr-DictComp key value clauses = search (rules, the_lemmas)
 
   pub fold_expr-Unary : (op : UnOp) (operand : Expr)
       → fold_expr values (e.Unary op operand) ≡ values.expr
-        (Expr-F.Unary op (fold_expr values operand))
+      (Expr-F.Unary op (fold_expr values operand))
   unfolding fold_arg fold_clause fold_expr fold_pair fold_target
   fold_expr-Unary op operand = search (rules, the_lemmas)
 
   pub fold_expr-Binary : (op : BinOp) (left right : Expr)
       → fold_expr values (e.Binary op left right) ≡ values.expr
-        (Expr-F.Binary op (fold_expr values left) (fold_expr values right))
+      (Expr-F.Binary op (fold_expr values left) (fold_expr values right))
   unfolding fold_arg fold_clause fold_expr fold_pair fold_target
   fold_expr-Binary op left right = search (rules, the_lemmas)
 
   pub fold_expr-Cond : (test chosen other : Expr)
       → fold_expr values (e.Cond test chosen other) ≡ values.expr
-        (Expr-F.Cond (fold_expr values test) (fold_expr values chosen) (fold_expr values other))
+      (Expr-F.Cond (fold_expr values test) (fold_expr values chosen) (fold_expr values other))
   unfolding fold_arg fold_clause fold_expr fold_pair fold_target
   fold_expr-Cond test chosen other = search (rules, the_lemmas)
 
@@ -87,38 +87,38 @@ module _ {A C E T P : Type 0} (values : ExprValues A C E T P) where
 
   pub fold_expr-Attr : (container : Expr) (name : List ℕ)
       → fold_expr values (e.Attr container name) ≡ values.expr
-        (Expr-F.Attr (fold_expr values container) name)
+      (Expr-F.Attr (fold_expr values container) name)
   unfolding fold_arg fold_clause fold_expr fold_pair fold_target
   fold_expr-Attr container name = search (rules, the_lemmas)
 
   pub fold_expr-Index : (container at : Expr)
       → fold_expr values (e.Index container at) ≡ values.expr
-        (Expr-F.Expr::Index (fold_expr values container) (fold_expr values at))
+      (Expr-F.Expr::Index (fold_expr values container) (fold_expr values at))
   unfolding fold_arg fold_clause fold_expr fold_pair fold_target
   fold_expr-Index container at = search (rules, the_lemmas)
 
   pub fold_expr-Slice : (container : Expr) (begin end step : Option Expr)
       → fold_expr values (e.Slice container begin end step) ≡ values.expr
-        (Expr-F.Slice (fold_expr values container) (option_map (fold_expr values) begin)
-        (option_map (fold_expr values) end) (option_map (fold_expr values) step))
+      (Expr-F.Slice (fold_expr values container) (option_map (fold_expr values) begin)
+      (option_map (fold_expr values) end) (option_map (fold_expr values) step))
   unfolding fold_arg fold_clause fold_expr fold_pair fold_target
   fold_expr-Slice container begin end step = search (rules, the_lemmas)
 
   pub fold_expr-Call : (function : Expr) (args : List Arg)
       → fold_expr values (e.Call function args) ≡ values.expr
-        (Expr-F.Call (fold_expr values function) (map (fold_arg values) args))
+      (Expr-F.Call (fold_expr values function) (map (fold_arg values) args))
   unfolding fold_arg fold_clause fold_expr fold_pair fold_target
   fold_expr-Call function args = search (rules, the_lemmas)
 
   pub fold_arg-Positional : (value : Expr)
       → fold_arg values (arg.Positional value) ≡ values.arg
-        (Arg-F.Positional (fold_expr values value))
+      (Arg-F.Positional (fold_expr values value))
   unfolding fold_arg fold_clause fold_expr fold_pair fold_target
   fold_arg-Positional value = search (rules, the_lemmas)
 
   pub fold_arg-Named : (name : List ℕ) (value : Expr)
       → fold_arg values (arg.Named name value) ≡ values.arg
-        (Arg-F.Named name (fold_expr values value))
+      (Arg-F.Named name (fold_expr values value))
   unfolding fold_arg fold_clause fold_expr fold_pair fold_target
   fold_arg-Named name value = search (rules, the_lemmas)
 
@@ -129,13 +129,13 @@ module _ {A C E T P : Type 0} (values : ExprValues A C E T P) where
 
   pub fold_arg-DoubleStar : (value : Expr)
       → fold_arg values (arg.DoubleStar value) ≡ values.arg
-        (Arg-F.DoubleStar (fold_expr values value))
+      (Arg-F.DoubleStar (fold_expr values value))
   unfolding fold_arg fold_clause fold_expr fold_pair fold_target
   fold_arg-DoubleStar value = search (rules, the_lemmas)
 
   pub fold_clause-For : (to : Target) (over : Expr)
       → fold_clause values (clause.For to over) ≡ values.clause
-        (Clause-F.For (fold_target values to) (fold_expr values over))
+      (Clause-F.For (fold_target values to) (fold_expr values over))
   unfolding fold_arg fold_clause fold_expr fold_pair fold_target
   fold_clause-For to over = search (rules, the_lemmas)
 
@@ -151,19 +151,19 @@ module _ {A C E T P : Type 0} (values : ExprValues A C E T P) where
 
   pub fold_target-Index : (container at : Expr)
       → fold_target values (target.Index container at) ≡ values.target
-        (Target-F.Target::Index (fold_expr values container) (fold_expr values at))
+      (Target-F.Target::Index (fold_expr values container) (fold_expr values at))
   unfolding fold_arg fold_clause fold_expr fold_pair fold_target
   fold_target-Index container at = search (rules, the_lemmas)
 
   pub fold_target-Many : (targets : List Target)
       → fold_target values (target.Many targets) ≡ values.target
-        (Target-F.Many (map (fold_target values) targets))
+      (Target-F.Many (map (fold_target values) targets))
   unfolding fold_arg fold_clause fold_expr fold_pair fold_target
   fold_target-Many targets = search (rules, the_lemmas)
 
   pub fold_pair-roll : (key value : Expr)
       → fold_pair values (roll-ExprPair (record { key = key; value = value })) ≡ values.pair
-        (record { key = fold_expr values key; value = fold_expr values value })
+      (record { key = fold_expr values key; value = fold_expr values value })
   unfolding fold_arg fold_clause fold_expr fold_pair fold_target
   fold_pair-roll key value = search (rules, the_lemmas)
 
@@ -175,13 +175,13 @@ module _ {K S : Type 0} (values : StmtValues K S) where
 
   pub fold_kind-If : (test : Expr) (chosen other : List Stmt)
       → fold_kind values (st.If test chosen other) ≡ values.kind
-        (StmtKind-F.If test (map (fold_stmt values) chosen) (map (fold_stmt values) other))
+      (StmtKind-F.If test (map (fold_stmt values) chosen) (map (fold_stmt values) other))
   unfolding fold_kind fold_stmt
   fold_kind-If test chosen other = search (rules, st.the_lemmas)
 
   pub fold_kind-For : (to : Target) (over : Expr) (body : List Stmt)
       → fold_kind values (st.For to over body) ≡ values.kind
-        (StmtKind-F.For to over (map (fold_stmt values) body))
+      (StmtKind-F.For to over (map (fold_stmt values) body))
   unfolding fold_kind fold_stmt
   fold_kind-For to over body = search (rules, st.the_lemmas)
 
@@ -224,6 +224,6 @@ module _ {K S : Type 0} (values : StmtValues K S) where
 
   pub fold_stmt-roll : (line : ℕ) (kind : StmtKind)
       → fold_stmt values (roll-Stmt (record { line = line; kind = kind })) ≡ values.stmt
-        (record { line = line; kind = fold_kind values kind })
+      (record { line = line; kind = fold_kind values kind })
   unfolding fold_kind fold_stmt
   fold_stmt-roll line kind = search (rules, st.the_lemmas)

@@ -302,8 +302,8 @@ pub record VariablesAreCounted (file : File) : Type 0 where
   pub functions :
       EachIndex file.functions
       (λ index.
-          code_counted file.free file.loads around
-          (get_or file.functions index unfinished_code) (around index) ≡ true)
+      code_counted file.free file.loads around
+      (get_or file.functions index unfinished_code) (around index) ≡ true)
 
 -- A variable's slot is one of those of its scope, where the free names stand behind the scopes, and
 -- has its name there.

@@ -23,38 +23,36 @@ pub record Mention : Type 0 where
   pub defines : Bool
   pub index : ℕ
 
+-- functions of which trees speak, in the order of the text
+abbrev pub Mentions : Type 0
+Mentions = List Mention
+
 -- those of each tree, one behind the other
-abbrev pub all_mentions : List (List Mention) → List Mention
+abbrev pub all_mentions : List Mentions → Mentions
 all_mentions [] = []
 all_mentions (first ∷ more) = first ++ all_mentions more
 
 -- those of a tree that may be absent
-abbrev pub maybe_mentions : Option (List Mention) → List Mention
+abbrev pub maybe_mentions : Option Mentions → Mentions
 maybe_mentions None = []
 maybe_mentions (Some mentions) = mentions
 
 -- ---- expressions, in the order of the text
 
 -- an argument speaks of the functions of its value
-abbrev pub arg_mentions :
-    Arg-F (List Mention) (List Mention) (List Mention) (List Mention) (List Mention)
-    → List Mention
+abbrev pub arg_mentions : Arg-F Mentions Mentions Mentions Mentions Mentions → Mentions
 arg_mentions (Arg-F.Positional value) = value
 arg_mentions (Arg-F.Named name value) = value
 arg_mentions (Arg-F.Star value) = value
 arg_mentions (Arg-F.DoubleStar value) = value
 
 -- a clause speaks of the functions of its parts
-abbrev pub clause_mentions :
-    Clause-F (List Mention) (List Mention) (List Mention) (List Mention) (List Mention)
-    → List Mention
+abbrev pub clause_mentions : Clause-F Mentions Mentions Mentions Mentions Mentions → Mentions
 clause_mentions (Clause-F.For to over) = to ++ over
 clause_mentions (Clause-F.If test) = test
 
 -- a `lambda` speaks of its own function, and any other expression of those of its parts
-abbrev pub expr_mentions :
-    Expr-F (List Mention) (List Mention) (List Mention) (List Mention) (List Mention)
-    → List Mention
+abbrev pub expr_mentions : Expr-F Mentions Mentions Mentions Mentions Mentions → Mentions
 expr_mentions (Expr-F.List items) = all_mentions items
 expr_mentions (Expr-F.Tuple items) = all_mentions items
 expr_mentions (Expr-F.Dict pairs) = all_mentions pairs
@@ -72,22 +70,17 @@ expr_mentions (Expr-F.Call function args) = function ++ all_mentions args
 expr_mentions _ = []
 
 -- an entry speaks of the functions of its key and its value
-abbrev pub pair_mentions :
-    ExprPair-F (List Mention) (List Mention) (List Mention) (List Mention) (List Mention)
-    → List Mention
+abbrev pub pair_mentions : ExprPair-F Mentions Mentions Mentions Mentions Mentions → Mentions
 pair_mentions pair = pair.key ++ pair.value
 
 -- a target speaks of the functions of its parts
-abbrev pub target_mentions :
-    Target-F (List Mention) (List Mention) (List Mention) (List Mention) (List Mention)
-    → List Mention
+abbrev pub target_mentions : Target-F Mentions Mentions Mentions Mentions Mentions → Mentions
 target_mentions (Target-F.Target::Name name) = []
 target_mentions (Target-F.Target::Index container at) = container ++ at
 target_mentions (Target-F.Many targets) = all_mentions targets
 
 -- the functions of which the trees of expressions speak
-abbrev pub exprs_mention :
-    ExprValues (List Mention) (List Mention) (List Mention) (List Mention) (List Mention)
+abbrev pub exprs_mention : ExprValues Mentions Mentions Mentions Mentions Mentions
 exprs_mention = record {
   arg = arg_mentions;
   clause = clause_mentions;
@@ -97,29 +90,29 @@ exprs_mention = record {
 }
 
 -- those of an argument
-abbrev pub mentions_of_arg : Arg → List Mention
+abbrev pub mentions_of_arg : Arg → Mentions
 mentions_of_arg = fold_arg exprs_mention
 
 -- those of a clause
-abbrev pub mentions_of_clause : Clause → List Mention
+abbrev pub mentions_of_clause : Clause → Mentions
 mentions_of_clause = fold_clause exprs_mention
 
 -- those of an expression
-abbrev pub mentions_of_expr : Expr → List Mention
+abbrev pub mentions_of_expr : Expr → Mentions
 mentions_of_expr = fold_expr exprs_mention
 
 -- those of an entry
-abbrev pub mentions_of_pair : ExprPair → List Mention
+abbrev pub mentions_of_pair : ExprPair → Mentions
 mentions_of_pair = fold_pair exprs_mention
 
 -- those of a target
-abbrev pub mentions_of_target : Target → List Mention
+abbrev pub mentions_of_target : Target → Mentions
 mentions_of_target = fold_target exprs_mention
 
 -- ---- statements
 
 -- a `def` speaks of its own function, and any other statement of those of its parts
-abbrev pub kind_mentions : StmtKind-F (List Mention) (List Mention) → List Mention
+abbrev pub kind_mentions : StmtKind-F Mentions Mentions → Mentions
 kind_mentions (StmtKind-F.Def index to) = record { defines = true; index = index } ∷ []
 kind_mentions (StmtKind-F.If test chosen other) =
     (mentions_of_expr test ++ all_mentions chosen) ++ all_mentions other
@@ -132,42 +125,42 @@ kind_mentions (StmtKind-F.Value value) = mentions_of_expr value
 kind_mentions _ = []
 
 -- the functions of which statements speak
-abbrev pub stmts_mention : StmtValues (List Mention) (List Mention)
+abbrev pub stmts_mention : StmtValues Mentions Mentions
 stmts_mention = record { kind = kind_mentions; stmt = λ stmt. stmt.kind }
 
 -- those of what a statement says
-abbrev pub mentions_of_kind : StmtKind → List Mention
+abbrev pub mentions_of_kind : StmtKind → Mentions
 mentions_of_kind = fold_kind stmts_mention
 
 -- those of a statement
-abbrev pub mentions_of_stmt : Stmt → List Mention
+abbrev pub mentions_of_stmt : Stmt → Mentions
 mentions_of_stmt = fold_stmt stmts_mention
 
 -- ---- files
 
 -- a parameter speaks of the functions of its default
-abbrev pub mentions_of_param : Param → List Mention
+abbrev pub mentions_of_param : Param → Mentions
 mentions_of_param (param.Optional name default) = mentions_of_expr default
 mentions_of_param _ = []
 
 -- those of the body of a function
-abbrev pub mentions_of_body : FnBody → List Mention
+abbrev pub mentions_of_body : FnBody → Mentions
 mentions_of_body (body.Block statements) = all_mentions (map mentions_of_stmt statements)
 mentions_of_body (body.Value value) = mentions_of_expr value
 
 -- the code of a function speaks of those of its parameters and its body
-abbrev pub mentions_of_code : FnCode → List Mention
+abbrev pub mentions_of_code : FnCode → Mentions
 mentions_of_code code =
     all_mentions (map mentions_of_param code.params) ++ mentions_of_body code.body
 
 -- all of which the body of a file and the codes of its functions speak
-abbrev pub mentions_of_file : File → List Mention
+abbrev pub mentions_of_file : File → Mentions
 mentions_of_file file =
     all_mentions (map mentions_of_stmt file.body)
     ++ all_mentions (map mentions_of_code file.functions)
 
 -- how many of some mentions are of an index
-abbrev pub mention_count : ℕ → List Mention → ℕ
+abbrev pub mention_count : ℕ → Mentions → ℕ
 mention_count index [] = 0
 mention_count index (mention ∷ more) =
     (if eqb mention.index index then 1 else 0) + mention_count index more
