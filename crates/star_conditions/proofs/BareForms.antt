@@ -12,7 +12,8 @@ use Rattle.star_grammar.specs.declared.bare_expressions.BareExpr.{BareExpr, the_
 use Rattle.star_grammar.specs.declared.bare_expressions.BarePair.{BarePair}
 use Rattle.star_grammar.specs.declared.bare_expressions.BareParam as param
 use Rattle.star_grammar.specs.declared.bare_expressions.BareParam.{BareParam, out-BareParam}
-use Rattle.star_grammar.specs.Orders.{is_place, is_target, some_and_all}
+use Rattle.star_grammar.specs.Orders.{is_place, is_target}
+use Rattle.star_trees.specs.Lists.{some_and_all}
 
 pub is_place-Int : (value : ℤ) → is_place (e.Int value) ≡ false
 unfolding is_place

@@ -15,10 +15,11 @@ use Rattle.star_grammar.specs.declared.bare_expressions.BareParam.{BareParam}
 use Rattle.star_grammar.specs.declared.bare_statements.BareLoadName.{BareLoadName}
 use Rattle.star_grammar.specs.declared.bare_statements.BareStmt.{BareStmt}
 use Rattle.star_grammar.specs.declared.bare_statements.BareStmtKind as st
-use Rattle.star_grammar.specs.declared.bare_statements.Inside.{Inside}
+use Rattle.star_trees.specs.declared.inside.Inside.{Inside}
 use Rattle.star_grammar.specs.Orders.{are_args, are_params, is_place, is_target}
 use Rattle.star_grammar.specs.Statements as t
 use Rattle.star_grammar.specs.Statements.{Statements}
+use Rattle.star_trees.specs.Surroundings.{in_branch, in_function, in_loop}
 
 -- conditions on trees of each type, each at a depth, and on statements at what stands round them
 pub record Conditions : Type 1 where
@@ -82,6 +83,6 @@ pub record StatementsKeep (holds : Conditions) : Type 0 where
   pub assigned : (inside : Inside) (line n : ℕ) (to value : BareExpr) → is_target to ≡ true → holds.expr n to → holds.expr n value → holds.stmt inside (n + 1) (t.on_line line (st.Assign to value))
   pub changed : (inside : Inside) (line n : ℕ) (place : BareExpr) (op : BinOp) (value : BareExpr) → is_place place ≡ true → holds.expr n place → holds.expr n value → holds.stmt inside (n + 1) (t.on_line line (st.Augment place op value))
   pub valued : (inside : Inside) (line n : ℕ) (value : BareExpr) → holds.expr n value → holds.stmt inside (n + 1) (t.on_line line (st.Value value))
-  pub def : (inside : Inside) (line n : ℕ) (name : BareName) (params : List BareParam) (body : List BareStmt) → n < 128 → are_params params ≡ true → All (holds.param n) params → All (holds.stmt t.in_function n) body → holds.stmt inside (n + 1) (t.on_line line (st.Def name params body))
-  pub branch : (inside : Inside) (line n : ℕ) (test : BareExpr) (chosen other : List BareStmt) → holds.expr n test → All (holds.stmt (t.in_branch inside) n) chosen → All (holds.stmt (t.in_branch inside) n) other → holds.stmt inside (n + 1) (t.on_line line (st.If test chosen other))
-  pub loop : (inside : Inside) (line n : ℕ) (to over : BareExpr) (body : List BareStmt) → is_target to ≡ true → holds.expr n to → holds.expr n over → All (holds.stmt (t.in_loop inside) n) body → holds.stmt inside (n + 1) (t.on_line line (st.For to over body))
+  pub def : (inside : Inside) (line n : ℕ) (name : BareName) (params : List BareParam) (body : List BareStmt) → n < 128 → are_params params ≡ true → All (holds.param n) params → All (holds.stmt in_function n) body → holds.stmt inside (n + 1) (t.on_line line (st.Def name params body))
+  pub branch : (inside : Inside) (line n : ℕ) (test : BareExpr) (chosen other : List BareStmt) → holds.expr n test → All (holds.stmt (in_branch inside) n) chosen → All (holds.stmt (in_branch inside) n) other → holds.stmt inside (n + 1) (t.on_line line (st.If test chosen other))
+  pub loop : (inside : Inside) (line n : ℕ) (to over : BareExpr) (body : List BareStmt) → is_target to ≡ true → holds.expr n to → holds.expr n over → All (holds.stmt (in_loop inside) n) body → holds.stmt inside (n + 1) (t.on_line line (st.For to over body))

@@ -5,12 +5,12 @@ use Rattle.std.proofs.Math.Seq.{get_or-append_seam}
 use Rattle.std.proofs.lemmas.Bool.{and_from}
 use Rattle.star_conditions.proofs.FreeUses.{Covered, Each, Grows, both-grow, first-covered, no_use-grows, second-covered}
 use Rattle.star_conditions.proofs.Trees.{Lists}
-use Rattle.star_conditions.specs.Counted.{Counted, Tally, all_counted, bound_of, each_counted, code_counted, no_load}
+use Rattle.star_trees.specs.Counted.{Counted, Tally, all_counted, bound_of, each_counted, code_counted, no_load}
 use Rattle.star_trees.specs.declared.files.FnCode.{FnCode}
 use Rattle.star_trees.specs.declared.loads.Load.{Load}
-use Rattle.star_names.specs.Variables.{Names}
-use Rattle.star_scopes.specs.Bindings.{Binding}
-use Rattle.star_scopes.specs.Making.{Making, ◌>>=◌, pure, each, begin, begun, finish, load}
+use Rattle.star_trees.specs.Variables.{Names, Binding}
+use Rattle.star_scopes.specs.Making.{Making, ◌>>=◌, pure, each, begin, finish, load}
+use Rattle.star_trees.specs.Functions.{unfinished_code}
 use Rattle.star_scopes.specs.Uses.{Uses, each_uses}
 
 -- what stands in a file beside its trees: its loads, and the scopes round each of its functions
@@ -18,7 +18,7 @@ pub record Whole : Type 0 where
   pub loads : List Load
   pub around : ℕ → List Names
 
--- as much of it as is known when so many functions have begun
+-- as much of it as is known when so many functions have unfinished_code
 pub record Known : Type 0 where
   pub count : ℕ
   pub whole : Whole
@@ -52,7 +52,7 @@ known_of lists around = record { count = length lists.functions; whole = record 
 
 module _ (free : Names) where
   abbrev pub CodesCounted : Whole → List FnCode → Type 0
-  CodesCounted whole functions = (place : ℕ) → place < length functions → code_counted free whole.loads whole.around (get_or functions place begun) (whole.around place) ≡ true
+  CodesCounted whole functions = (place : ℕ) → place < length functions → code_counted free whole.loads whole.around (get_or functions place unfinished_code) (whole.around place) ≡ true
 
   -- what holds after a value is made: nothing that is known changes, and the value and the codes are right with all that may come later
   pub record Sound {A : Type 0} (ok : Whole → A → Type 0) (start : ℕ → List Names) (before : Lists) (made : A × Lists) : Type 0 where
@@ -188,12 +188,12 @@ placed-before (suc place) scopes around (suc k) below = placed-before place scop
 pub begin-good : (free : Names) (scopes : List Names) → Always free (λ whole place. whole.around place ≡ scopes) begin
 begin-good free scopes lists start =
     let functions = lists.functions in
-    let more = length-append functions (begun ∷ []) in
+    let more = length-append functions (unfinished_code ∷ []) in
     record {
       now = placed (length functions) scopes start;
       later = record { count = omega (arith, more); loads = le_refl _; keeps = record { around = placed-before (length functions) scopes start; loads = λ place _. refl } };
       value = λ whole keeps. sym (keeps.around (length functions) (omega (arith, more))) ∙ placed-here (length functions) scopes start;
-      codes = λ whole keeps so. each-behind (λ place code. code_counted free whole.loads whole.around code (whole.around place) ≡ true) functions begun begun so refl;
+      codes = λ whole keeps so. each-behind (λ place code. code_counted free whole.loads whole.around code (whole.around place) ≡ true) functions unfinished_code unfinished_code so refl;
     }
 
 pub finish-good : (free : Names) (known : Known) (place : ℕ) (code : FnCode) → ((whole : Whole) → Keeps known whole → code_counted free whole.loads whole.around code (whole.around place) ≡ true) → Good free known (λ _ _. Unit {0}) (finish place code)
@@ -205,7 +205,7 @@ finish-good free known place code fits lists start up =
       now = start;
       later = later;
       value = λ whole keeps. tt;
-      codes = λ whole keeps so k below. each-set (λ at one. code_counted free whole.loads whole.around one (whole.around at) ≡ true) functions place code begun so (fits whole (back (again up later) keeps)) k (omega (arith, same, below));
+      codes = λ whole keeps so k below. each-set (λ at one. code_counted free whole.loads whole.around one (whole.around at) ≡ true) functions place code unfinished_code so (fits whole (back (again up later) keeps)) k (omega (arith, same, below));
     }
 
 pub load-good : (free : Names) (loaded : Load) → Always free (λ whole place. get_or whole.loads place no_load ≡ loaded) (load loaded)

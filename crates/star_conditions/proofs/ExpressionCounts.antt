@@ -1,13 +1,13 @@
 -- What is made of expressions binds what they do, and its variables are counted right.
 use Rattle.std.proofs.Common.{◌≡◌, ℕ, true, List, [], ◌∷◌, map, Option, Some, None, option_map, refl, ap, subst, sym, ◌∙◌, ◌&&◌}
 use Rattle.std.proofs.lemmas.Bool.{and_from}
-use Rattle.star_conditions.proofs.CountLayers as is
+use Rattle.star_trees.proofs.Folds as is
 use Rattle.star_conditions.proofs.CountsMade.{Whole, back, Always, Pairwise, Fits, done, bind-good, then, first, only, each-good, each-counted, all-fit, all-bound, begin-good, finish-good}
 use Rattle.star_conditions.proofs.FreeUses.{Covered, Grows, Keeps, binds-keep, both-grow, each-grows, each-of, first-covered, name_uses-grows, name-covered, no_use-grows, second-covered, with_binding-within, within-self}
 use Rattle.star_conditions.proofs.MeaningInduction.{ArgParts, ClauseParts, ExprParts, ParamParts, PairParts, meant-arg, meant-clause, meant-expr, meant-param, meant-pair, of-expr, of-param}
 use Rattle.star_conditions.proofs.Trees.{With, bare}
 use Rattle.star_conditions.proofs.VariablesFound.{same_scopes-self, variable-counted, variable-named}
-use Rattle.star_conditions.specs.Counted.{Counted, ClauseTally, Tally, arg_in, clause_in, clauses_counted, code_counted, counted_of, each_counted, expr_in, maybe_counted, pair_in, param_tally, plain, same_scopes, target_in}
+use Rattle.star_trees.specs.Counted.{Counted, ClauseTally, Tally, arg_in, clause_in, clauses_counted, code_counted, counted_of, each_counted, expr_in, maybe_counted, pair_in, param_tally, plain, same_scopes, target_in, expr_tallies}
 use Rattle.star_trees.specs.declared.trees.Arg.{Arg}
 use Rattle.star_trees.specs.declared.trees.Arg as arg_tree
 use Rattle.star_trees.specs.declared.trees.BinOp.{BinOp}
@@ -22,16 +22,15 @@ use Rattle.star_trees.specs.declared.files.Param.TheVariants as param_tree
 use Rattle.star_grammar.specs.declared.bare_expressions.BareArg.TheOpen.{BareArg-F, BareClause-F, BareExpr-F, BareParam-F}
 use Rattle.star_grammar.specs.declared.bare_expressions.BareExpr.{BareExpr}
 use Rattle.star_grammar.specs.declared.bare_expressions.BareParam.{BareParam}
-use Rattle.star_names.specs.Variables.{Names}
+use Rattle.star_trees.specs.Variables.{Names, variables, Binding, each_binds, name_binds, no_binding}
 use Rattle.star_scopes.specs.ExprMaking.{arg_made, clause_made, expr_made, param_made, target_made, items_made, pairs_made, args_made, params_made, targets_made, maybe_made, list_made, tuple_made, dict_made, more_clauses_made, some_clauses_made, clauses_made, list_comp_made, dict_comp_made, unary_made, binary_made, cond_made, lambda_made, lambda_code, attr_made, index_made, slice_made, call_made, index_target, many_target, named_arg_made, optional_made, pair_made, for_clause_made}
 use Rattle.star_scopes.specs.ExprMeaning.{arg_meaning, arg_step, clause_meaning, clause_step, expr_step, meaning, pair_meaning, pair_step, param_meaning, param_step}
 use Rattle.star_scopes.specs.Making.{pure, finish}
 use Rattle.star_scopes.specs.Meanings.{ArgMeaning, ClauseMeaning, ExprMeaning, PairMeaning, ParamMeaning}
-use Rattle.star_scopes.specs.Scopes.{variable, variables}
+use Rattle.star_scopes.specs.Scopes.{variable}
 use Rattle.star_trees.specs.declared.trees.ExprPair.{ExprPair}
 use Rattle.star_trees.specs.declared.trees.Target.{Target}
 use Rattle.star_trees.specs.declared.files.Param.{Param}
-use Rattle.star_scopes.specs.Bindings.{Binding, each_binds, name_binds, no_binding}
 use Rattle.star_scopes.specs.Binds.{clause_binds, param_binds, target_binds}
 use Rattle.star_scopes.specs.ExprUses.{arg_uses, args_use, call_uses, clause_uses, clauses_use, cond_uses, dict_comp_uses, expr_uses, items_use, lambda_uses, list_comp_uses, maybe_uses, pairs_use, param_uses, params_use, slice_uses, two_use}
 use Rattle.star_scopes.specs.Uses.{◌>>◌, each_uses}
@@ -231,21 +230,21 @@ module _ (dialect : Dialect) (free : Names) (scopes : List Names) where
 
   list-sound : (items : List (SoundExpr dialect free)) → Covered free (items_use dialect scopes (map meaning (map bare items))) → Always free (λ whole made. Fits (expr_in free whole.loads whole.around made) scopes (each_binds (map (λ target. target.bound) (map meaning (map bare items))))) (list_made free scopes (map meaning (map bare items)))
   unfolding list_made
-  list-sound items covered = first (items-sound items covered) (λ made known one. done known (e.List made) (λ whole keeps. fits-by (is.expr_in-List free whole.loads whole.around made) (record {
+  list-sound items covered = first (items-sound items covered) (λ made known one. done known (e.List made) (λ whole keeps. fits-by (is.fold_expr-List (expr_tallies free whole.loads whole.around) made) (record {
     counted = all-fit (expr_in free whole.loads whole.around) (λ m. m.bound) scopes _ made (one whole keeps);
     bound = ap each_binds (all-bound (expr_in free whole.loads whole.around) (λ m. m.bound) scopes _ made (one whole keeps));
   })))
 
   tuple-sound : (items : List (SoundExpr dialect free)) → Covered free (items_use dialect scopes (map meaning (map bare items))) → Always free (λ whole made. Fits (expr_in free whole.loads whole.around made) scopes (each_binds (map (λ target. target.bound) (map meaning (map bare items))))) (tuple_made free scopes (map meaning (map bare items)))
   unfolding tuple_made
-  tuple-sound items covered = first (items-sound items covered) (λ made known one. done known (e.Tuple made) (λ whole keeps. fits-by (is.expr_in-Tuple free whole.loads whole.around made) (record {
+  tuple-sound items covered = first (items-sound items covered) (λ made known one. done known (e.Tuple made) (λ whole keeps. fits-by (is.fold_expr-Tuple (expr_tallies free whole.loads whole.around) made) (record {
     counted = all-fit (expr_in free whole.loads whole.around) (λ m. m.bound) scopes _ made (one whole keeps);
     bound = ap each_binds (all-bound (expr_in free whole.loads whole.around) (λ m. m.bound) scopes _ made (one whole keeps));
   })))
 
   many_target-sound : (targets : List (SoundExpr dialect free)) → Covered free (items_use dialect scopes (map meaning (map bare targets))) → Always free (λ whole made. Fits (target_in free whole.loads whole.around made) scopes (each_binds (map (λ target. target.bound) (map meaning (map bare targets))))) (many_target free scopes (map meaning (map bare targets)))
   unfolding many_target
-  many_target-sound targets covered = first (targets-sound targets covered) (λ made known one. done known (target_tree.Many made) (λ whole keeps. fits-by (is.target_in-Many free whole.loads whole.around made) (record {
+  many_target-sound targets covered = first (targets-sound targets covered) (λ made known one. done known (target_tree.Many made) (λ whole keeps. fits-by (is.fold_target-Many (expr_tallies free whole.loads whole.around) made) (record {
     counted = all-fit (target_in free whole.loads whole.around) (λ m. m.bound) scopes _ made (one whole keeps);
     bound = ap each_binds (all-bound (target_in free whole.loads whole.around) (λ m. m.bound) scopes _ made (one whole keeps));
   })))
@@ -256,7 +255,7 @@ module _ (dialect : Dialect) (free : Names) (scopes : List Names) where
 
   dict-sound : (pairs : List (SoundPair dialect free)) → Covered free (pairs_use dialect scopes (map pair_meaning (map bare pairs))) → Always free Plain (dict_made free scopes (map pair_meaning (map bare pairs)))
   unfolding dict_made
-  dict-sound pairs covered = first (pairs-sound pairs covered) (λ made known one. done known (e.Dict made) (λ whole keeps. fits-by (is.expr_in-Dict free whole.loads whole.around made) (plain-fits (each-counted (pair_in free whole.loads whole.around) scopes _ made (one whole keeps)))))
+  dict-sound pairs covered = first (pairs-sound pairs covered) (λ made known one. done known (e.Dict made) (λ whole keeps. fits-by (is.fold_expr-Dict (expr_tallies free whole.loads whole.around) made) (plain-fits (each-counted (pair_in free whole.loads whole.around) scopes _ made (one whole keeps)))))
 
   more_clauses-sound : (inner : List Names) (clauses : List (SoundClause dialect free)) → Covered free (each_uses (map (λ (clause : ClauseMeaning). clause.uses dialect inner inner) (map clause_meaning (map bare clauses))))
       → Always free (λ whole. Pairwise (λ (m : ClauseMeaning) one. ClauseFits (clause_in free whole.loads whole.around one) inner inner m.bound) (map clause_meaning (map bare clauses))) (more_clauses_made free scopes inner (map clause_meaning (map bare clauses)))
@@ -289,7 +288,7 @@ module _ (dialect : Dialect) (free : Names) (scopes : List Names) where
       then (clauses-sound inner clauses (second-covered _ covered)) (λ others later up all.
       done later (e.ListComp made others) (λ whole keeps.
       let fit = all whole keeps in
-      fits-by (is.expr_in-ListComp free whole.loads whole.around made others) (plain-fits (
+      fits-by (is.fold_expr-ListComp (expr_tallies free whole.loads whole.around) made others) (plain-fits (
       subst (λ bounds. ((expr_in free whole.loads whole.around made).counted (variables bounds ∷ scopes) && clauses_counted (map (clause_in free whole.loads whole.around) others) (variables bounds ∷ scopes) scopes) ≡ true) (sym fit.1)
       (and_from _ _ (one whole (back up keeps)).counted fit.0))))))
 
@@ -306,20 +305,20 @@ module _ (dialect : Dialect) (free : Names) (scopes : List Names) where
       let before = back further keeps in
       let fit = all whole keeps in
       let expr = expr_in free whole.loads whole.around in
-      fits-by (is.expr_in-DictComp free whole.loads whole.around made_key made others) (plain-fits (
+      fits-by (is.fold_expr-DictComp (expr_tallies free whole.loads whole.around) made_key made others) (plain-fits (
       subst (λ bounds. (((expr made_key).counted (variables bounds ∷ scopes) && (expr made).counted (variables bounds ∷ scopes)) && clauses_counted (map (clause_in free whole.loads whole.around) others) (variables bounds ∷ scopes) scopes) ≡ true) (sym fit.1)
       (and_from _ _ (and_from _ _ (one whole (back up before)).counted (two whole before).counted) fit.0)))))))
 
   unary-sound : (op : UnOp) (operand : SoundExpr dialect free) → Covered free ((meaning operand.0).uses dialect scopes) → Always free Plain (unary_made free scopes op (meaning operand.0))
   unfolding unary_made
-  unary-sound op operand covered = first (operand.1.expr scopes covered) (λ made known one. done known (e.Unary op made) (λ whole keeps. fits-by (is.expr_in-Unary free whole.loads whole.around op made) (plain-fits (one whole keeps).counted)))
+  unary-sound op operand covered = first (operand.1.expr scopes covered) (λ made known one. done known (e.Unary op made) (λ whole keeps. fits-by (is.fold_expr-Unary (expr_tallies free whole.loads whole.around) op made) (plain-fits (one whole keeps).counted)))
 
   binary-sound : (op : BinOp) (left right : SoundExpr dialect free) → Covered free (two_use dialect scopes (meaning left.0) (meaning right.0)) → Always free Plain (binary_made free scopes op (meaning left.0) (meaning right.0))
   unfolding binary_made two_use
   binary-sound op left right covered =
       first (left.1.expr scopes (first-covered (right.1.grows scopes) covered)) (λ made known one.
       then (right.1.expr scopes (second-covered _ covered)) (λ other later up two.
-      done later (e.Binary op made other) (λ whole keeps. fits-by (is.expr_in-Binary free whole.loads whole.around op made other) (plain-fits (and_from _ _ (one whole (back up keeps)).counted (two whole keeps).counted)))))
+      done later (e.Binary op made other) (λ whole keeps. fits-by (is.fold_expr-Binary (expr_tallies free whole.loads whole.around) op made other) (plain-fits (and_from _ _ (one whole (back up keeps)).counted (two whole keeps).counted)))))
 
   cond-sound : (test chosen other : SoundExpr dialect free) → Covered free (cond_uses dialect scopes (meaning test.0) (meaning chosen.0) (meaning other.0)) → Always free Plain (cond_made free scopes (meaning test.0) (meaning chosen.0) (meaning other.0))
   unfolding cond_made cond_uses two_use
@@ -330,7 +329,7 @@ module _ (dialect : Dialect) (free : Names) (scopes : List Names) where
       then (other.1.expr scopes (second-covered _ rest)) (λ made_other last further three.
       done last (e.Cond made_test made_chosen made_other) (λ whole keeps.
       let before = back further keeps in
-      fits-by (is.expr_in-Cond free whole.loads whole.around made_test made_chosen made_other) (plain-fits (and_from _ _ (two whole before).counted (and_from _ _ (one whole (back up before)).counted (three whole keeps).counted)))))))
+      fits-by (is.fold_expr-Cond (expr_tallies free whole.loads whole.around) made_test made_chosen made_other) (plain-fits (and_from _ _ (two whole before).counted (and_from _ _ (one whole (back up before)).counted (three whole keeps).counted)))))))
 
   lambda-sound : (params : List (SoundParam dialect free)) (body : SoundExpr dialect free) (line : ℕ) → Covered free (lambda_uses dialect scopes (map param_meaning (map bare params)) (meaning body.0)) → Always free Plain (lambda_made free scopes (map param_meaning (map bare params)) (meaning body.0) line)
   unfolding lambda_made lambda_uses
@@ -347,19 +346,19 @@ module _ (dialect : Dialect) (free : Names) (scopes : List Names) where
       subst (λ around. code_counted free whole.loads whole.around code around ≡ true) (sym (at whole (back up before)))
       (and_from _ _ (all-fit tally (λ m. m.bound) scopes _ made_params fit)
       (subst (λ bounds. (expr_in free whole.loads whole.around made_body).counted (variables bounds ∷ scopes) ≡ true) (sym (all-bound tally (λ m. m.bound) scopes _ made_params fit)) (two whole keeps).counted)))) (λ _ end more _.
-      done end (e.Lambda place) (λ whole keeps. fits-by (is.expr_in-Lambda free whole.loads whole.around place) (plain-fits (
+      done end (e.Lambda place) (λ whole keeps. fits-by (is.fold_expr-Lambda (expr_tallies free whole.loads whole.around) place) (plain-fits (
       subst (λ around. same_scopes around scopes ≡ true) (sym (at whole (back up (back further (back more keeps))))) (same_scopes-self scopes))))))))
 
   attr-sound : (container : SoundExpr dialect free) (name : List ℕ) → Covered free ((meaning container.0).uses dialect scopes) → Always free Plain (attr_made free scopes (meaning container.0) name)
   unfolding attr_made
-  attr-sound container name covered = first (container.1.expr scopes covered) (λ made known one. done known (e.Attr made name) (λ whole keeps. fits-by (is.expr_in-Attr free whole.loads whole.around made name) (plain-fits (one whole keeps).counted)))
+  attr-sound container name covered = first (container.1.expr scopes covered) (λ made known one. done known (e.Attr made name) (λ whole keeps. fits-by (is.fold_expr-Attr (expr_tallies free whole.loads whole.around) made name) (plain-fits (one whole keeps).counted)))
 
   index-sound : (container at : SoundExpr dialect free) → Covered free (two_use dialect scopes (meaning container.0) (meaning at.0)) → Always free Plain (index_made free scopes (meaning container.0) (meaning at.0))
   unfolding index_made two_use
   index-sound container at covered =
       first (container.1.expr scopes (first-covered (at.1.grows scopes) covered)) (λ made known one.
       then (at.1.expr scopes (second-covered _ covered)) (λ other later up two.
-      done later (e.Index made other) (λ whole keeps. fits-by (is.expr_in-Index free whole.loads whole.around made other) (plain-fits (and_from _ _ (one whole (back up keeps)).counted (two whole keeps).counted)))))
+      done later (e.Index made other) (λ whole keeps. fits-by (is.fold_expr-Index (expr_tallies free whole.loads whole.around) made other) (plain-fits (and_from _ _ (one whole (back up keeps)).counted (two whole keeps).counted)))))
 
   slice-sound : (container : SoundExpr dialect free) (begin end step : Option (SoundExpr dialect free)) → Covered free (slice_uses dialect scopes (meaning container.0) (option_map meaning (option_map bare begin)) (option_map meaning (option_map bare end)) (option_map meaning (option_map bare step)))
       → Always free Plain (slice_made free scopes (meaning container.0) (option_map meaning (option_map bare begin)) (option_map meaning (option_map bare end)) (option_map meaning (option_map bare step)))
@@ -376,25 +375,25 @@ module _ (dialect : Dialect) (free : Names) (scopes : List Names) where
       done last (e.Slice made made_begin made_end made_step) (λ whole keeps.
       let third = back more keeps in
       let second = back further third in
-      fits-by (is.expr_in-Slice free whole.loads whole.around made made_begin made_end made_step) (plain-fits (and_from _ _ (one whole (back up second)).counted (and_from _ _ (two whole second) (and_from _ _ (three whole third) (four whole keeps))))))))))
+      fits-by (is.fold_expr-Slice (expr_tallies free whole.loads whole.around) made made_begin made_end made_step) (plain-fits (and_from _ _ (one whole (back up second)).counted (and_from _ _ (two whole second) (and_from _ _ (three whole third) (four whole keeps))))))))))
 
   call-sound : (function : SoundExpr dialect free) (args : List (SoundArg dialect free)) → Covered free (call_uses dialect scopes (meaning function.0) (map arg_meaning (map bare args))) → Always free Plain (call_made free scopes (meaning function.0) (map arg_meaning (map bare args)))
   unfolding call_made call_uses
   call-sound function args covered =
       first (function.1.expr scopes (first-covered (args-grow dialect free scopes args) covered)) (λ made known one.
       then (args-sound args (second-covered _ covered)) (λ other later up two.
-      done later (e.Call made other) (λ whole keeps. fits-by (is.expr_in-Call free whole.loads whole.around made other) (plain-fits (and_from _ _ (one whole (back up keeps)).counted (each-counted (arg_in free whole.loads whole.around) scopes _ other (two whole keeps)))))))
+      done later (e.Call made other) (λ whole keeps. fits-by (is.fold_expr-Call (expr_tallies free whole.loads whole.around) made other) (plain-fits (and_from _ _ (one whole (back up keeps)).counted (each-counted (arg_in free whole.loads whole.around) scopes _ other (two whole keeps)))))))
 
   index_target-sound : (container at : SoundExpr dialect free) → Covered free (two_use dialect scopes (meaning container.0) (meaning at.0)) → Always free (λ whole made. Fits (target_in free whole.loads whole.around made) scopes no_binding) (index_target free scopes (meaning container.0) (meaning at.0))
   unfolding index_target two_use
   index_target-sound container at covered =
       first (container.1.expr scopes (first-covered (at.1.grows scopes) covered)) (λ made known one.
       then (at.1.expr scopes (second-covered _ covered)) (λ other later up two.
-      done later (target_tree.Index made other) (λ whole keeps. fits-by (is.target_in-Index free whole.loads whole.around made other) (plain-fits (and_from _ _ (one whole (back up keeps)).counted (two whole keeps).counted)))))
+      done later (target_tree.Index made other) (λ whole keeps. fits-by (is.fold_target-Index (expr_tallies free whole.loads whole.around) made other) (plain-fits (and_from _ _ (one whole (back up keeps)).counted (two whole keeps).counted)))))
 
   named_arg-sound : (name : List ℕ) (value : SoundExpr dialect free) → Covered free ((meaning value.0).uses dialect scopes) → Always free (λ whole made. arg_in free whole.loads whole.around made scopes ≡ true) (named_arg_made free scopes name (meaning value.0))
   unfolding named_arg_made
-  named_arg-sound name value covered = first (value.1.expr scopes covered) (λ made known one. done known (arg_tree.Named name made) (λ whole keeps. counted-by scopes (is.arg_in-Named free whole.loads whole.around name made) (one whole keeps).counted))
+  named_arg-sound name value covered = first (value.1.expr scopes covered) (λ made known one. done known (arg_tree.Named name made) (λ whole keeps. counted-by scopes (is.fold_arg-Named (expr_tallies free whole.loads whole.around) name made) (one whole keeps).counted))
 
   optional-sound : (name : List ℕ) (default : SoundExpr dialect free) → Covered free ((meaning default.0).uses dialect scopes) → Always free (λ whole made. Fits (param_tally free whole.loads whole.around made) scopes (name_binds name)) (optional_made free scopes name (meaning default.0))
   unfolding optional_made
@@ -405,7 +404,7 @@ module _ (dialect : Dialect) (free : Names) (scopes : List Names) where
   pair-sound key value covered =
       first (key.1.expr scopes (first-covered (value.1.grows scopes) covered)) (λ made known one.
       then (value.1.expr scopes (second-covered _ covered)) (λ other later up two.
-      done later (roll-ExprPair (record { key = made; value = other })) (λ whole keeps. counted-by scopes (is.pair_in-roll free whole.loads whole.around made other) (and_from _ _ (one whole (back up keeps)).counted (two whole keeps).counted))))
+      done later (roll-ExprPair (record { key = made; value = other })) (λ whole keeps. counted-by scopes (is.fold_pair-roll (expr_tallies free whole.loads whole.around) made other) (and_from _ _ (one whole (back up keeps)).counted (two whole keeps).counted))))
 
 for_clause-sound : (dialect : Dialect) (free : Names) (inner scopes : List Names) (to over : SoundExpr dialect free) → Covered free ((meaning to.0).uses dialect inner >> (meaning over.0).uses dialect scopes)
     → Always free (λ whole made. ClauseFits (clause_in free whole.loads whole.around made) inner scopes (meaning to.0).bound) (for_clause_made free inner scopes (meaning to.0) (meaning over.0))
@@ -415,7 +414,7 @@ for_clause-sound dialect free inner scopes to over covered =
     then (over.1.expr scopes (second-covered _ covered)) (λ other later up two.
     done later (clause_tree.For made other) (λ whole keeps.
     let fit = one whole (back up keeps) in
-    clause_fits-by (is.clause_in-For free whole.loads whole.around made other) (record { counted = and_from _ _ fit.counted (two whole keeps).counted; bound = fit.bound }))))
+    clause_fits-by (is.fold_clause-For (expr_tallies free whole.loads whole.around) made other) (record { counted = and_from _ _ fit.counted (two whole keeps).counted; bound = fit.bound }))))
 
 -- ---- a construct of sound parts is sound
 
@@ -481,9 +480,9 @@ module _ (dialect : Dialect) (free : Names) where
   expr-uses-grow (BareExpr-F.Call function args) scopes = call-grows dialect free scopes function args
 
   expr-layer : (layer : ExprLayer) (scopes : List Names) → Covered free (expr_uses (expr-of layer) dialect scopes) → Always free (λ whole made. Fits (expr_in free whole.loads whole.around made) scopes (target_binds (expr-of layer))) (expr_made (expr-of layer) free scopes)
-  expr-layer (BareExpr-F.Name name) scopes covered = only _ (λ whole. fits-by (is.expr_in-Name free whole.loads whole.around (variable free scopes name.name)) (record { counted = variable-counted free scopes name.name (name-covered free name dialect scopes covered); bound = ap name_binds (variable-named free scopes name.name) }))
-  expr-layer (BareExpr-F.Int value) scopes covered = only _ (λ whole. fits-by (is.expr_in-Int free whole.loads whole.around value) (plain-fits refl))
-  expr-layer (BareExpr-F.Text text) scopes covered = only _ (λ whole. fits-by (is.expr_in-Text free whole.loads whole.around text) (plain-fits refl))
+  expr-layer (BareExpr-F.Name name) scopes covered = only _ (λ whole. fits-by (is.fold_expr-Name (expr_tallies free whole.loads whole.around) (variable free scopes name.name)) (record { counted = variable-counted free scopes name.name (name-covered free name dialect scopes covered); bound = ap name_binds (variable-named free scopes name.name) }))
+  expr-layer (BareExpr-F.Int value) scopes covered = only _ (λ whole. fits-by (is.fold_expr-Int (expr_tallies free whole.loads whole.around) value) (plain-fits refl))
+  expr-layer (BareExpr-F.Text text) scopes covered = only _ (λ whole. fits-by (is.fold_expr-Text (expr_tallies free whole.loads whole.around) text) (plain-fits refl))
   expr-layer (BareExpr-F.List items) scopes covered = list-sound dialect free scopes items covered
   expr-layer (BareExpr-F.Tuple items) scopes covered = tuple-sound dialect free scopes items covered
   expr-layer (BareExpr-F.Dict pairs) scopes covered = dict-sound dialect free scopes pairs covered
@@ -507,10 +506,10 @@ module _ (dialect : Dialect) (free : Names) where
   expr-layer (BareExpr-F.Call function args) scopes covered = call-sound dialect free scopes function args covered
 
   no_target : (scopes : List Names) → Always free (λ whole made. Fits (target_in free whole.loads whole.around made) scopes no_binding) (pure (target_tree.Many []))
-  no_target scopes = only _ (λ whole. fits-by (is.target_in-Many free whole.loads whole.around []) (record { counted = refl; bound = refl }))
+  no_target scopes = only _ (λ whole. fits-by (is.fold_target-Many (expr_tallies free whole.loads whole.around) []) (record { counted = refl; bound = refl }))
 
   target-layer : (layer : ExprLayer) (scopes : List Names) → Covered free (expr_uses (expr-of layer) dialect scopes) → Always free (λ whole made. Fits (target_in free whole.loads whole.around made) scopes (target_binds (expr-of layer))) (target_made (expr-of layer) free scopes)
-  target-layer (BareExpr-F.Name name) scopes covered = only _ (λ whole. fits-by (is.target_in-Name free whole.loads whole.around (variable free scopes name.name)) (record { counted = variable-counted free scopes name.name (name-covered free name dialect scopes covered); bound = ap name_binds (variable-named free scopes name.name) }))
+  target-layer (BareExpr-F.Name name) scopes covered = only _ (λ whole. fits-by (is.fold_target-Name (expr_tallies free whole.loads whole.around) (variable free scopes name.name)) (record { counted = variable-counted free scopes name.name (name-covered free name dialect scopes covered); bound = ap name_binds (variable-named free scopes name.name) }))
   target-layer (BareExpr-F.Index container at) scopes covered = index_target-sound dialect free scopes container at covered
   target-layer (BareExpr-F.Bracketed target) scopes covered = target.1.target scopes covered
   target-layer (BareExpr-F.Tuple targets) scopes covered = many_target-sound dialect free scopes targets covered
@@ -524,10 +523,10 @@ module _ (dialect : Dialect) (free : Names) where
   arg-uses-grow (BareArg-F.DoubleStar value line) scopes = value.1.grows scopes
 
   arg-layer : (layer : ArgLayer) (scopes : List Names) → Covered free (arg_uses (arg-of layer) dialect scopes) → Always free (λ whole made. arg_in free whole.loads whole.around made scopes ≡ true) (arg_made (arg-of layer) free scopes)
-  arg-layer (BareArg-F.Positional value) scopes covered = first (value.1.expr scopes covered) (λ made known one. done known (arg_tree.Positional made) (λ whole keeps. counted-by scopes (is.arg_in-Positional free whole.loads whole.around made) (one whole keeps).counted))
+  arg-layer (BareArg-F.Positional value) scopes covered = first (value.1.expr scopes covered) (λ made known one. done known (arg_tree.Positional made) (λ whole keeps. counted-by scopes (is.fold_arg-Positional (expr_tallies free whole.loads whole.around) made) (one whole keeps).counted))
   arg-layer (BareArg-F.Named name value) scopes covered = named_arg-sound dialect free scopes name value covered
-  arg-layer (BareArg-F.Star value line) scopes covered = first (value.1.expr scopes covered) (λ made known one. done known (arg_tree.Star made) (λ whole keeps. counted-by scopes (is.arg_in-Star free whole.loads whole.around made) (one whole keeps).counted))
-  arg-layer (BareArg-F.DoubleStar value line) scopes covered = first (value.1.expr scopes covered) (λ made known one. done known (arg_tree.DoubleStar made) (λ whole keeps. counted-by scopes (is.arg_in-DoubleStar free whole.loads whole.around made) (one whole keeps).counted))
+  arg-layer (BareArg-F.Star value line) scopes covered = first (value.1.expr scopes covered) (λ made known one. done known (arg_tree.Star made) (λ whole keeps. counted-by scopes (is.fold_arg-Star (expr_tallies free whole.loads whole.around) made) (one whole keeps).counted))
+  arg-layer (BareArg-F.DoubleStar value line) scopes covered = first (value.1.expr scopes covered) (λ made known one. done known (arg_tree.DoubleStar made) (λ whole keeps. counted-by scopes (is.fold_arg-DoubleStar (expr_tallies free whole.loads whole.around) made) (one whole keeps).counted))
 
   param-uses-grow : (layer : ParamLayer) (scopes : List Names) → Grows (param_uses (param-of layer) dialect scopes)
   param-uses-grow (BareParam-F.Required name) scopes = no_use-grows
@@ -549,7 +548,7 @@ module _ (dialect : Dialect) (free : Names) where
 
   clause-layer : (layer : ClauseLayer) (inner scopes : List Names) → Covered free (clause_uses (clause-of layer) dialect inner scopes) → Always free (λ whole made. ClauseFits (clause_in free whole.loads whole.around made) inner scopes (clause_binds (clause-of layer))) (clause_made (clause-of layer) free inner scopes)
   clause-layer (BareClause-F.For to over) inner scopes covered = for_clause-sound dialect free inner scopes to over covered
-  clause-layer (BareClause-F.If test) inner scopes covered = first (test.1.expr inner covered) (λ made known one. done known (clause_tree.If made) (λ whole keeps. clause_fits-by (is.clause_in-If free whole.loads whole.around made) (record { counted = (one whole keeps).counted; bound = refl })))
+  clause-layer (BareClause-F.If test) inner scopes covered = first (test.1.expr inner covered) (λ made known one. done known (clause_tree.If made) (λ whole keeps. clause_fits-by (is.fold_clause-If (expr_tallies free whole.loads whole.around) made) (record { counted = (one whole keeps).counted; bound = refl })))
 
   arg-sound : (layer : ArgLayer) → ArgSound dialect free (arg_step (arg-of layer))
   arg-sound layer = record { grows = arg-uses-grow layer; arg = arg-layer layer }

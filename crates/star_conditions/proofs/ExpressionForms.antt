@@ -4,12 +4,13 @@ use Rattle.std.proofs.lemmas.Bool.{and_from, false≢true}
 use Rattle.std.proofs.lemmas.List.Elements.{All-head, All-tail}
 use Rattle.star_conditions.proofs.BareForms as bare_form
 use Rattle.star_conditions.proofs.ExpressionNesting.{pair_meaning-roll}
-use Rattle.star_conditions.proofs.FormLayers as is
+use Rattle.star_trees.proofs.Folds as is
+use Rattle.star_trees.proofs.Assignable as assignable
 use Rattle.star_conditions.proofs.FormsMade.{ParamMade, ParamsRight, all_of-zipped, arg_as, arg_formed, args-made, clause_as, clause_formed, clauses-made, formed, looped, map-zipped, params-made, some_and_all-zipped, targets-each}
 use Rattle.star_conditions.proofs.Made.{Makes, pure-makes, bind-makes, makes-also, each-makes, function-makes}
 use Rattle.star_conditions.proofs.Conditions.{ForFirst}
-use Rattle.star_conditions.specs.Orders.{ArgForm, ClauseForm, are_clauses, form_of_arg, form_of_clause, is_place, maybe_right, right_code, right_expr, right_pair, right_param, right_target}
-use Rattle.star_conditions.specs.Orders as form
+use Rattle.star_trees.specs.Orders.{ArgForm, ClauseForm, are_clauses, form_of_arg, form_of_clause, is_assignable, maybe_right, right_code, right_expr, right_pair, right_param, right_target, expr_forms}
+use Rattle.star_trees.specs.Orders as form
 use Rattle.star_trees.specs.declared.files.FnCode.{FnCode}
 use Rattle.star_trees.specs.declared.files.Param.{Param}
 use Rattle.star_trees.specs.declared.files.Param.TheVariants as param_tree
@@ -34,14 +35,15 @@ use Rattle.star_grammar.specs.declared.bare_expressions.BarePair.{BarePair, roll
 use Rattle.star_grammar.specs.declared.bare_expressions.BareParam as bare_param
 use Rattle.star_grammar.specs.declared.bare_expressions.BareParam.{BareParam}
 use Rattle.star_grammar.specs.Orders as grammar
-use Rattle.star_grammar.specs.Orders.{all_of, is_target, some_and_all}
-use Rattle.star_names.specs.Variables.{Names}
+use Rattle.star_trees.specs.Lists.{all_of, some_and_all}
+use Rattle.star_grammar.specs.Orders.{is_target}
+use Rattle.star_trees.specs.Variables.{Names, variables}
 use Rattle.star_scopes.specs.ExprMaking.{items_made, pairs_made, args_made, params_made, targets_made, maybe_made, list_made, tuple_made, dict_made, more_clauses_made, some_clauses_made, clauses_made, list_comp_made, dict_comp_made, unary_made, binary_made, cond_made, lambda_made, lambda_code, attr_made, index_made, slice_made, call_made, index_target, many_target, named_arg_made, optional_made, pair_made, for_clause_made}
 use Rattle.star_scopes.proofs.Layers as layer
 use Rattle.star_scopes.specs.ExprMeaning.{arg_meaning, clause_meaning, meaning, pair_meaning, param_meaning}
 use Rattle.star_scopes.specs.Making.{Making, ◌>>=◌, pure}
 use Rattle.star_scopes.specs.Meanings.{ArgMeaning, ClauseMeaning, ExprMeaning, PairMeaning, ParamMeaning}
-use Rattle.star_scopes.specs.Scopes.{variable, variables}
+use Rattle.star_scopes.specs.Scopes.{variable}
 
 -- the code of a function with no refused form
 abbrev pub RightCode : FnCode → Type 0
@@ -59,7 +61,7 @@ right test a so = pure-makes RightCode a so
 pub record ExprForm (tree : BareExpr) (m : ExprMeaning) : Type 0 where
   pub expr : (free : Names) (scopes : List Names) → MakesRight right_expr (m.expr free scopes)
   pub target : is_target tree ≡ true → (free : Names) (scopes : List Names) → MakesRight right_target (m.target free scopes)
-  pub place : grammar.is_place tree ≡ true → (free : Names) (scopes : List Names) → MakesRight is_place (m.expr free scopes)
+  pub place : grammar.is_place tree ≡ true → (free : Names) (scopes : List Names) → MakesRight is_assignable (m.expr free scopes)
 
 pub record ArgFormed (tree : BareArg) (m : ArgMeaning) : Type 0 where
   pub arg : (free : Names) (scopes : List Names) → Makes RightCode (λ made. form_of_arg made ≡ arg_as tree) (m.arg free scopes)
@@ -143,15 +145,15 @@ module _ (free : Names) (scopes : List Names) where
 
   list-right : (items : List BareExpr) → All ExprRight items → MakesRight right_expr (list_made free scopes (map meaning items))
   unfolding list_made
-  list-right items all = bind-makes RightCode (items-right items all) (λ made few. right _ (e.List made) (is.right_expr-List made ∙ few))
+  list-right items all = bind-makes RightCode (items-right items all) (λ made few. right _ (e.List made) (is.fold_expr-List expr_forms made ∙ few))
 
   tuple-right : (items : List BareExpr) → All ExprRight items → MakesRight right_expr (tuple_made free scopes (map meaning items))
   unfolding tuple_made
-  tuple-right items all = bind-makes RightCode (items-right items all) (λ made few. right _ (e.Tuple made) (is.right_expr-Tuple made ∙ few))
+  tuple-right items all = bind-makes RightCode (items-right items all) (λ made few. right _ (e.Tuple made) (is.fold_expr-Tuple expr_forms made ∙ few))
 
   dict-right : (pairs : List BarePair) → All PairRight pairs → MakesRight right_expr (dict_made free scopes (map pair_meaning pairs))
   unfolding dict_made
-  dict-right pairs all = bind-makes RightCode (pairs-right pairs all) (λ made few. right _ (e.Dict made) (is.right_expr-Dict made ∙ few))
+  dict-right pairs all = bind-makes RightCode (pairs-right pairs all) (λ made few. right _ (e.Dict made) (is.fold_expr-Dict expr_forms made ∙ few))
 
   list_comp-right : (item : BareExpr) (clauses : List BareClause) → ExprRight item → ForFirst clauses → All ClauseRight clauses → MakesRight right_expr (list_comp_made free scopes (meaning item) (map clause_meaning clauses))
   unfolding list_comp_made
@@ -159,7 +161,7 @@ module _ (free : Names) (scopes : List Names) where
       let inner = variables (map (λ clause. clause.bound) (map clause_meaning clauses)) ∷ scopes in
       bind-makes RightCode (so.expr free inner) (λ made one.
       bind-makes RightCode (clauses-right inner clauses first all) (λ others few.
-      right _ (e.ListComp made others) (is.right_expr-ListComp made others ∙ and_from _ _ one few)))
+      right _ (e.ListComp made others) (is.fold_expr-ListComp expr_forms made others ∙ and_from _ _ one few)))
 
   dict_comp-right : (key value : BareExpr) (clauses : List BareClause) → ExprRight key → ExprRight value → ForFirst clauses → All ClauseRight clauses → MakesRight right_expr (dict_comp_made free scopes (meaning key) (meaning value) (map clause_meaning clauses))
   unfolding dict_comp_made
@@ -168,18 +170,18 @@ module _ (free : Names) (scopes : List Names) where
       bind-makes RightCode (so.expr free inner) (λ made_key one.
       bind-makes RightCode (also.expr free inner) (λ made two.
       bind-makes RightCode (clauses-right inner clauses first all) (λ others few.
-      right _ (e.DictComp made_key made others) (is.right_expr-DictComp made_key made others ∙ and_from _ _ (and_from _ _ one two) few))))
+      right _ (e.DictComp made_key made others) (is.fold_expr-DictComp expr_forms made_key made others ∙ and_from _ _ (and_from _ _ one two) few))))
 
   unary-right : (op : UnOp) (operand : BareExpr) → ExprRight operand → MakesRight right_expr (unary_made free scopes op (meaning operand))
   unfolding unary_made
-  unary-right op operand so = bind-makes RightCode (so.expr free scopes) (λ made one. right _ (e.Unary op made) (is.right_expr-Unary op made ∙ one))
+  unary-right op operand so = bind-makes RightCode (so.expr free scopes) (λ made one. right _ (e.Unary op made) (is.fold_expr-Unary expr_forms op made ∙ one))
 
   binary-right : (op : BinOp) (left right : BareExpr) → ExprRight left → ExprRight right → MakesRight right_expr (binary_made free scopes op (meaning left) (meaning right))
   unfolding binary_made
   binary-right op left second so also =
       bind-makes RightCode (so.expr free scopes) (λ made one.
       bind-makes RightCode (also.expr free scopes) (λ other two.
-      right _ (e.Binary op made other) (is.right_expr-Binary op made other ∙ and_from _ _ one two)))
+      right _ (e.Binary op made other) (is.fold_expr-Binary expr_forms op made other ∙ and_from _ _ one two)))
 
   cond-right : (test chosen other : BareExpr) → ExprRight test → ExprRight chosen → ExprRight other → MakesRight right_expr (cond_made free scopes (meaning test) (meaning chosen) (meaning other))
   unfolding cond_made
@@ -187,7 +189,7 @@ module _ (free : Names) (scopes : List Names) where
       bind-makes RightCode (also.expr free scopes) (λ made_chosen one.
       bind-makes RightCode (so.expr free scopes) (λ made_test two.
       bind-makes RightCode (more.expr free scopes) (λ made_other three.
-      right _ (e.Cond made_test made_chosen made_other) (is.right_expr-Cond made_test made_chosen made_other ∙ and_from _ _ two (and_from _ _ one three)))))
+      right _ (e.Cond made_test made_chosen made_other) (is.fold_expr-Cond expr_forms made_test made_chosen made_other ∙ and_from _ _ two (and_from _ _ one three)))))
 
   lambda-right : (params : List BareParam) (body : BareExpr) (line : ℕ) → grammar.are_params params ≡ true → All ParamRight params → ExprRight body → MakesRight right_expr (lambda_made free scopes (map param_meaning params) (meaning body) line)
   unfolding lambda_made
@@ -199,25 +201,25 @@ module _ (free : Names) (scopes : List Names) where
       bind-makes RightCode (so.expr free inner) (λ made one.
       pure-makes RightCode (made_params, made) (few, one))))
       (λ made both. and_from _ _ both.0.order (and_from _ _ both.0.defaults both.1))
-      (λ place. is.right_expr-Lambda place)
+      (λ place. is.fold_expr-Lambda expr_forms place)
 
   attr-right : (container : BareExpr) (name : List ℕ) → ExprRight container → MakesRight right_expr (attr_made free scopes (meaning container) name)
   unfolding attr_made
-  attr-right container name so = bind-makes RightCode (so.expr free scopes) (λ made one. right _ (e.Attr made name) (is.right_expr-Attr made name ∙ one))
+  attr-right container name so = bind-makes RightCode (so.expr free scopes) (λ made one. right _ (e.Attr made name) (is.fold_expr-Attr expr_forms made name ∙ one))
 
   index-right : (container at : BareExpr) → ExprRight container → ExprRight at → MakesRight right_expr (index_made free scopes (meaning container) (meaning at))
   unfolding index_made
   index-right container at so also =
       bind-makes RightCode (so.expr free scopes) (λ made one.
       bind-makes RightCode (also.expr free scopes) (λ made_at two.
-      right _ (e.Index made made_at) (is.right_expr-Index made made_at ∙ and_from _ _ one two)))
+      right _ (e.Index made made_at) (is.fold_expr-Index expr_forms made made_at ∙ and_from _ _ one two)))
 
-  index_place-right : (container at : BareExpr) → ExprRight container → ExprRight at → MakesRight is_place (index_made free scopes (meaning container) (meaning at))
+  index_place-right : (container at : BareExpr) → ExprRight container → ExprRight at → MakesRight is_assignable (index_made free scopes (meaning container) (meaning at))
   unfolding index_made
   index_place-right container at so also =
       bind-makes RightCode (so.expr free scopes) (λ made one.
       bind-makes RightCode (also.expr free scopes) (λ made_at two.
-      right _ (e.Index made made_at) (is.is_place-Index made made_at)))
+      right _ (e.Index made made_at) (assignable.is_assignable-Index made made_at)))
 
   slice-right : (container : BareExpr) (begin end step : Option BareExpr) → ExprRight container → IfSome begin ExprRight → IfSome end ExprRight → IfSome step ExprRight → MakesRight right_expr (slice_made free scopes (meaning container) (option_map meaning begin) (option_map meaning end) (option_map meaning step))
   unfolding slice_made
@@ -226,29 +228,29 @@ module _ (free : Names) (scopes : List Names) where
       bind-makes RightCode (maybe-right begin first) (λ made_begin two.
       bind-makes RightCode (maybe-right end second) (λ made_end three.
       bind-makes RightCode (maybe-right step third) (λ made_step four.
-      right _ (e.Slice made made_begin made_end made_step) (is.right_expr-Slice made made_begin made_end made_step ∙ and_from _ _ one (and_from _ _ two (and_from _ _ three four)))))))
+      right _ (e.Slice made made_begin made_end made_step) (is.fold_expr-Slice expr_forms made made_begin made_end made_step ∙ and_from _ _ one (and_from _ _ two (and_from _ _ three four)))))))
 
   call-right : (function : BareExpr) (args : List BareArg) → ExprRight function → grammar.are_args args ≡ true → All ArgRight args → MakesRight right_expr (call_made free scopes (meaning function) (map arg_meaning args))
   unfolding call_made
   call-right function args so are all =
       bind-makes RightCode (so.expr free scopes) (λ made one.
       bind-makes RightCode (args-right args are all) (λ made_args few.
-      right _ (e.Call made made_args) (is.right_expr-Call made made_args ∙ and_from _ _ one few)))
+      right _ (e.Call made made_args) (is.fold_expr-Call expr_forms made made_args ∙ and_from _ _ one few)))
 
   index_target-right : (container at : BareExpr) → ExprRight container → ExprRight at → MakesRight right_target (index_target free scopes (meaning container) (meaning at))
   unfolding index_target
   index_target-right container at so also =
       bind-makes RightCode (so.expr free scopes) (λ made one.
       bind-makes RightCode (also.expr free scopes) (λ made_at two.
-      right _ (target_tree.Index made made_at) (is.right_target-Index made made_at ∙ and_from _ _ one two)))
+      right _ (target_tree.Index made made_at) (is.fold_target-Index expr_forms made made_at ∙ and_from _ _ one two)))
 
   many_target-right : (targets : List BareExpr) → some_and_all (map is_target targets) ≡ true → All ExprRight targets → MakesRight right_target (many_target free scopes (map meaning targets))
   unfolding many_target
-  many_target-right targets are all = bind-makes RightCode (targets-right targets are all) (λ made few. right _ (target_tree.Many made) (is.right_target-Many made ∙ few))
+  many_target-right targets are all = bind-makes RightCode (targets-right targets are all) (λ made few. right _ (target_tree.Many made) (is.fold_target-Many expr_forms made ∙ few))
 
   named_arg-right : (name : List ℕ) (value : BareExpr) → ExprRight value → Makes RightCode (λ made. form_of_arg made ≡ formed 1 (Some name) true) (named_arg_made free scopes name (meaning value))
   unfolding named_arg_made
-  named_arg-right name value so = bind-makes RightCode (so.expr free scopes) (λ made one. pure-makes RightCode (arg_tree.Named name made) (is.form_of_arg-Named name made ∙ ap (formed 1 (Some name)) one))
+  named_arg-right name value so = bind-makes RightCode (so.expr free scopes) (λ made one. pure-makes RightCode (arg_tree.Named name made) (is.fold_arg-Named expr_forms name made ∙ ap (formed 1 (Some name)) one))
 
   optional-right : (name : List ℕ) (default : BareExpr) → ExprRight default → Makes RightCode (ParamMade (bare_param.Optional name default)) (optional_made free scopes name (meaning default))
   unfolding optional_made
@@ -263,22 +265,22 @@ module _ (free : Names) (scopes : List Names) where
   pair-right key value so also =
       bind-makes RightCode (so.expr free scopes) (λ made_key one.
       bind-makes RightCode (also.expr free scopes) (λ made two.
-      right _ (roll-ExprPair (record { key = made_key; value = made })) (is.right_pair-roll made_key made ∙ and_from _ _ one two)))
+      right _ (roll-ExprPair (record { key = made_key; value = made })) (is.fold_pair-roll expr_forms made_key made ∙ and_from _ _ one two)))
 
 for_clause-right : (free : Names) (inner around : List Names) (to over : BareExpr) → is_target to ≡ true → ExprRight to → ExprRight over → Makes RightCode (λ made. form_of_clause made ≡ looped true true) (for_clause_made free inner around (meaning to) (meaning over))
 unfolding for_clause_made
 for_clause-right free inner around to over are so also =
     bind-makes RightCode (so.target are free inner) (λ made_to one.
     bind-makes RightCode (also.expr free around) (λ made two.
-    pure-makes RightCode (clause_tree.For made_to made) (is.form_of_clause-For made_to made ∙ ap (looped true) (and_from _ _ one two))))
+    pure-makes RightCode (clause_tree.For made_to made) (is.fold_clause-For expr_forms made_to made ∙ ap (looped true) (and_from _ _ one two))))
 
 -- ---- what is made of each construct
 
 pub name-formed : (name : BareName) → ExprRight (bare.Name name)
 name-formed name = subst (ExprForm (bare.Name name)) (sym (layer.meaning-Name name)) (record {
-  expr = λ free scopes. right _ (e.Name (variable free scopes name.name)) (is.right_expr-Name (variable free scopes name.name));
-  target = λ are free scopes. right _ (target_tree.Name (variable free scopes name.name)) (is.right_target-Name (variable free scopes name.name));
-  place = λ are free scopes. right _ (e.Name (variable free scopes name.name)) (is.is_place-Name (variable free scopes name.name));
+  expr = λ free scopes. right _ (e.Name (variable free scopes name.name)) (is.fold_expr-Name expr_forms (variable free scopes name.name));
+  target = λ are free scopes. right _ (target_tree.Name (variable free scopes name.name)) (is.fold_target-Name expr_forms (variable free scopes name.name));
+  place = λ are free scopes. right _ (e.Name (variable free scopes name.name)) (assignable.is_assignable-Name (variable free scopes name.name));
 })
 
 pub bracketed-formed : (inside : BareExpr) → ExprRight inside → ExprRight (bare.Bracketed inside)
@@ -290,14 +292,14 @@ bracketed-formed inside so = subst (ExprForm (bare.Bracketed inside)) (sym (laye
 
 pub int-formed : (value : ℤ) → ExprRight (bare.Int value)
 int-formed value = subst (ExprForm (bare.Int value)) (sym (layer.meaning-Int value)) (record {
-  expr = λ free scopes. right _ (e.Int value) (is.right_expr-Int value);
+  expr = λ free scopes. right _ (e.Int value) (is.fold_expr-Int expr_forms value);
   target = λ is_one. absurd (false≢true (sym (bare_form.is_target-Int value) ∙ is_one));
   place = λ is_one. absurd (false≢true (sym (bare_form.is_place-Int value) ∙ is_one));
 })
 
 pub text-formed : (text : List ℕ) → ExprRight (bare.Text text)
 text-formed text = subst (ExprForm (bare.Text text)) (sym (layer.meaning-Text text)) (record {
-  expr = λ free scopes. right _ (e.Text text) (is.right_expr-Text text);
+  expr = λ free scopes. right _ (e.Text text) (is.fold_expr-Text expr_forms text);
   target = λ is_one. absurd (false≢true (sym (bare_form.is_target-Text text) ∙ is_one));
   place = λ is_one. absurd (false≢true (sym (bare_form.is_place-Text text) ∙ is_one));
 })
@@ -395,17 +397,17 @@ call-formed function args so are all = subst (ExprForm (bare.Call function args)
 
 pub positional-formed : (value : BareExpr) → ExprRight value → ArgRight (bare_arg.Positional value)
 positional-formed value so = subst (ArgFormed (bare_arg.Positional value)) (sym (layer.arg_meaning-Positional value)) (record {
-  arg = λ free scopes. bind-makes RightCode (so.expr free scopes) (λ made one. pure-makes RightCode (arg_tree.Positional made) (is.form_of_arg-Positional made ∙ ap (formed 0 None) one ∙ sym (ap arg_formed (bare_form.out-Positional value))));
+  arg = λ free scopes. bind-makes RightCode (so.expr free scopes) (λ made one. pure-makes RightCode (arg_tree.Positional made) (is.fold_arg-Positional expr_forms made ∙ ap (formed 0 None) one ∙ sym (ap arg_formed (bare_form.out-Positional value))));
 })
 
 pub star-formed : (value : BareExpr) (line : ℕ) → ExprRight value → ArgRight (bare_arg.Star value line)
 star-formed value line so = subst (ArgFormed (bare_arg.Star value line)) (sym (layer.arg_meaning-Star value line)) (record {
-  arg = λ free scopes. bind-makes RightCode (so.expr free scopes) (λ made one. pure-makes RightCode (arg_tree.Star made) (is.form_of_arg-Star made ∙ ap (formed 2 None) one ∙ sym (ap arg_formed (bare_form.out-Star value line))));
+  arg = λ free scopes. bind-makes RightCode (so.expr free scopes) (λ made one. pure-makes RightCode (arg_tree.Star made) (is.fold_arg-Star expr_forms made ∙ ap (formed 2 None) one ∙ sym (ap arg_formed (bare_form.out-Star value line))));
 })
 
 pub double_star-formed : (value : BareExpr) (line : ℕ) → ExprRight value → ArgRight (bare_arg.DoubleStar value line)
 double_star-formed value line so = subst (ArgFormed (bare_arg.DoubleStar value line)) (sym (layer.arg_meaning-DoubleStar value line)) (record {
-  arg = λ free scopes. bind-makes RightCode (so.expr free scopes) (λ made one. pure-makes RightCode (arg_tree.DoubleStar made) (is.form_of_arg-DoubleStar made ∙ ap (formed 3 None) one ∙ sym (ap arg_formed (bare_form.out-DoubleStar value line))));
+  arg = λ free scopes. bind-makes RightCode (so.expr free scopes) (λ made one. pure-makes RightCode (arg_tree.DoubleStar made) (is.fold_arg-DoubleStar expr_forms made ∙ ap (formed 3 None) one ∙ sym (ap arg_formed (bare_form.out-DoubleStar value line))));
 })
 
 pub named-formed : (name : List ℕ) (value : BareExpr) → ExprRight value → ArgRight (bare_arg.Named name value)
@@ -420,7 +422,7 @@ for_clause-formed to over are so also = subst (ClauseFormed (bare_clause.For to 
 
 pub if_clause-formed : (test : BareExpr) → ExprRight test → ClauseRight (bare_clause.If test)
 if_clause-formed test so = subst (ClauseFormed (bare_clause.If test)) (sym (layer.clause_meaning-If test)) (record {
-  clause = λ free inner around. bind-makes RightCode (so.expr free inner) (λ made one. pure-makes RightCode (clause_tree.If made) (is.form_of_clause-If made ∙ ap (looped false) one ∙ sym (ap clause_formed (bare_form.out-If test))));
+  clause = λ free inner around. bind-makes RightCode (so.expr free inner) (λ made one. pure-makes RightCode (clause_tree.If made) (is.fold_clause-If expr_forms made ∙ ap (looped false) one ∙ sym (ap clause_formed (bare_form.out-If test))));
 })
 
 pub required-formed : (name : List ℕ) → ParamRight (bare_param.Required name)

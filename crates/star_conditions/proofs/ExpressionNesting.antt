@@ -2,12 +2,12 @@
 use Rattle.std.proofs.Common.{rules, ◌≡◌, ℕ, ◌+◌, ◌≤◌, ◌<◌, max, ℤ, true, List, [], ◌∷◌, map, All, IfSome, Option, Some, None, option_map, arith, le_trans, subst, sym}
 use Rattle.std.specs.List.{AllZip}
 use Rattle.std.proofs.lemmas.List.Elements.{All-head, All-tail}
-use Rattle.star_conditions.proofs.ExpressionPlaces.{of_each}
+use Rattle.star_conditions.proofs.ExpressionIndexes.{of_each}
 use Rattle.star_conditions.proofs.Made.{Makes, pure-makes, bind-makes, makes-also, each-makes, function-makes}
-use Rattle.star_conditions.proofs.NestingLayers as is
+use Rattle.star_trees.proofs.Folds as is
 use Rattle.star_conditions.proofs.Conditions.{ForFirst}
-use Rattle.star_conditions.specs.Nesting.{depth_of_arg, depth_of_clause, depth_of_code, depth_of_expr, depth_of_pair, depth_of_param, depth_of_target}
-use Rattle.star_conditions.specs.Places.{greatest, number_or_zero}
+use Rattle.star_trees.specs.Nesting.{depth_of_arg, depth_of_clause, depth_of_code, depth_of_expr, depth_of_pair, depth_of_param, depth_of_target, expr_depths}
+use Rattle.star_trees.specs.Indexes.{greatest, number_or_zero}
 use Rattle.star_trees.specs.declared.trees.Arg as arg_tree
 use Rattle.star_trees.specs.declared.trees.BinOp.{BinOp}
 use Rattle.star_trees.specs.declared.trees.Clause as clause_tree
@@ -30,13 +30,13 @@ use Rattle.star_grammar.specs.declared.bare_expressions.BarePair.{BarePair, roll
 use Rattle.star_grammar.specs.declared.bare_expressions.BareParam as bare_param
 use Rattle.star_grammar.specs.declared.bare_expressions.BareParam.{BareParam}
 use Rattle.star_grammar.specs.Orders.{are_args, are_params}
-use Rattle.star_names.specs.Variables.{Names}
+use Rattle.star_trees.specs.Variables.{Names, variables}
 use Rattle.star_scopes.specs.ExprMaking.{items_made, pairs_made, args_made, params_made, targets_made, maybe_made, list_made, tuple_made, dict_made, more_clauses_made, some_clauses_made, clauses_made, list_comp_made, dict_comp_made, unary_made, binary_made, cond_made, lambda_made, lambda_code, attr_made, index_made, slice_made, call_made, index_target, many_target, named_arg_made, optional_made, pair_made, for_clause_made}
 use Rattle.star_scopes.proofs.Layers as layer
 use Rattle.star_scopes.specs.ExprMeaning.{arg_meaning, clause_meaning, meaning, pair_meaning, pair_step, param_meaning}
 use Rattle.star_scopes.specs.Making.{Making, ◌>>=◌, pure, each}
 use Rattle.star_scopes.specs.Meanings.{ArgMeaning, ClauseMeaning, ExprMeaning, PairMeaning, ParamMeaning}
-use Rattle.star_scopes.specs.Scopes.{variable, variables}
+use Rattle.star_scopes.specs.Scopes.{variable}
 
 -- the code of a function that is not too deep
 abbrev pub Shallow : FnCode → Type 0
@@ -140,15 +140,15 @@ module _ (free : Names) (scopes : List Names) (n : ℕ) where
 
   list-nested : (items : List BareExpr) → All (ExprNested n) items → MakesWithin depth_of_expr (n + 1) (list_made free scopes (map meaning items))
   unfolding list_made
-  list-nested items all = bind-makes Shallow (items-nested items all) (λ made few. within _ _ (e.List made) (omega (arith, is.depth_of_expr-List made, few)))
+  list-nested items all = bind-makes Shallow (items-nested items all) (λ made few. within _ _ (e.List made) (omega (arith, is.fold_expr-List expr_depths made, few)))
 
   tuple-nested : (items : List BareExpr) → All (ExprNested n) items → MakesWithin depth_of_expr (n + 1) (tuple_made free scopes (map meaning items))
   unfolding tuple_made
-  tuple-nested items all = bind-makes Shallow (items-nested items all) (λ made few. within _ _ (e.Tuple made) (omega (arith, is.depth_of_expr-Tuple made, few)))
+  tuple-nested items all = bind-makes Shallow (items-nested items all) (λ made few. within _ _ (e.Tuple made) (omega (arith, is.fold_expr-Tuple expr_depths made, few)))
 
   dict-nested : (pairs : List BarePair) → All (PairNested n) pairs → MakesWithin depth_of_expr (n + 1) (dict_made free scopes (map pair_meaning pairs))
   unfolding dict_made
-  dict-nested pairs all = bind-makes Shallow (pairs-nested pairs all) (λ made few. within _ _ (e.Dict made) (omega (arith, is.depth_of_expr-Dict made, few)))
+  dict-nested pairs all = bind-makes Shallow (pairs-nested pairs all) (λ made few. within _ _ (e.Dict made) (omega (arith, is.fold_expr-Dict expr_depths made, few)))
 
   list_comp-nested : (item : BareExpr) (clauses : List BareClause) → ExprNested n item → All (ClauseNested n) clauses → MakesWithin depth_of_expr (n + 1) (list_comp_made free scopes (meaning item) (map clause_meaning clauses))
   unfolding list_comp_made
@@ -156,7 +156,7 @@ module _ (free : Names) (scopes : List Names) (n : ℕ) where
       let inner = variables (map (λ clause. clause.bound) (map clause_meaning clauses)) ∷ scopes in
       bind-makes Shallow (so.expr free inner) (λ made one.
       bind-makes Shallow (clauses-nested inner clauses all) (λ others few.
-      within _ _ (e.ListComp made others) (omega (arith, is.depth_of_expr-ListComp made others))))
+      within _ _ (e.ListComp made others) (omega (arith, is.fold_expr-ListComp expr_depths made others))))
 
   dict_comp-nested : (key value : BareExpr) (clauses : List BareClause) → ExprNested n key → ExprNested n value → All (ClauseNested n) clauses → MakesWithin depth_of_expr (n + 1) (dict_comp_made free scopes (meaning key) (meaning value) (map clause_meaning clauses))
   unfolding dict_comp_made
@@ -165,18 +165,18 @@ module _ (free : Names) (scopes : List Names) (n : ℕ) where
       bind-makes Shallow (so.expr free inner) (λ made_key one.
       bind-makes Shallow (also.expr free inner) (λ made two.
       bind-makes Shallow (clauses-nested inner clauses all) (λ others few.
-      within _ _ (e.DictComp made_key made others) (omega (arith, is.depth_of_expr-DictComp made_key made others)))))
+      within _ _ (e.DictComp made_key made others) (omega (arith, is.fold_expr-DictComp expr_depths made_key made others)))))
 
   unary-nested : (op : UnOp) (operand : BareExpr) → ExprNested n operand → MakesWithin depth_of_expr (n + 1) (unary_made free scopes op (meaning operand))
   unfolding unary_made
-  unary-nested op operand so = bind-makes Shallow (so.expr free scopes) (λ made one. within _ _ (e.Unary op made) (omega (arith, is.depth_of_expr-Unary op made, one)))
+  unary-nested op operand so = bind-makes Shallow (so.expr free scopes) (λ made one. within _ _ (e.Unary op made) (omega (arith, is.fold_expr-Unary expr_depths op made, one)))
 
   binary-nested : (op : BinOp) (left right : BareExpr) → ExprNested n left → ExprNested n right → MakesWithin depth_of_expr (n + 1) (binary_made free scopes op (meaning left) (meaning right))
   unfolding binary_made
   binary-nested op left right so also =
       bind-makes Shallow (so.expr free scopes) (λ made one.
       bind-makes Shallow (also.expr free scopes) (λ other two.
-      within _ _ (e.Binary op made other) (omega (arith, is.depth_of_expr-Binary op made other))))
+      within _ _ (e.Binary op made other) (omega (arith, is.fold_expr-Binary expr_depths op made other))))
 
   cond-nested : (test chosen other : BareExpr) → ExprNested n test → ExprNested n chosen → ExprNested n other → MakesWithin depth_of_expr (n + 1) (cond_made free scopes (meaning test) (meaning chosen) (meaning other))
   unfolding cond_made
@@ -184,7 +184,7 @@ module _ (free : Names) (scopes : List Names) (n : ℕ) where
       bind-makes Shallow (also.expr free scopes) (λ made_chosen one.
       bind-makes Shallow (so.expr free scopes) (λ made_test two.
       bind-makes Shallow (more.expr free scopes) (λ made_other three.
-      within _ _ (e.Cond made_test made_chosen made_other) (omega (arith, is.depth_of_expr-Cond made_test made_chosen made_other)))))
+      within _ _ (e.Cond made_test made_chosen made_other) (omega (arith, is.fold_expr-Cond expr_depths made_test made_chosen made_other)))))
 
   -- the code of a `lambda` is as deep as the `lambda`
   lambda-nested : (params : List BareParam) (body : BareExpr) (line : ℕ) → n < 128 → All (ParamNested n) params → ExprNested n body → MakesWithin depth_of_expr (n + 1) (lambda_made free scopes (map param_meaning params) (meaning body) line)
@@ -197,18 +197,18 @@ module _ (free : Names) (scopes : List Names) (n : ℕ) where
       bind-makes Shallow (so.expr free inner) (λ made one.
       within (λ both. max (of_each depth_of_param both.0) (depth_of_expr both.1)) n (made_params, made) (omega arith))))
       (λ made few. omega (arith, few))
-      (λ place. omega (arith, is.depth_of_expr-Lambda place))
+      (λ place. omega (arith, is.fold_expr-Lambda expr_depths place))
 
   attr-nested : (container : BareExpr) (name : List ℕ) → ExprNested n container → MakesWithin depth_of_expr (n + 1) (attr_made free scopes (meaning container) name)
   unfolding attr_made
-  attr-nested container name so = bind-makes Shallow (so.expr free scopes) (λ made one. within _ _ (e.Attr made name) (omega (arith, is.depth_of_expr-Attr made name, one)))
+  attr-nested container name so = bind-makes Shallow (so.expr free scopes) (λ made one. within _ _ (e.Attr made name) (omega (arith, is.fold_expr-Attr expr_depths made name, one)))
 
   index-nested : (container at : BareExpr) → ExprNested n container → ExprNested n at → MakesWithin depth_of_expr (n + 1) (index_made free scopes (meaning container) (meaning at))
   unfolding index_made
   index-nested container at so also =
       bind-makes Shallow (so.expr free scopes) (λ made one.
       bind-makes Shallow (also.expr free scopes) (λ made_at two.
-      within _ _ (e.Index made made_at) (omega (arith, is.depth_of_expr-Index made made_at))))
+      within _ _ (e.Index made made_at) (omega (arith, is.fold_expr-Index expr_depths made made_at))))
 
   slice-nested : (container : BareExpr) (begin end step : Option BareExpr) → ExprNested n container → IfSome begin (ExprNested n) → IfSome end (ExprNested n) → IfSome step (ExprNested n) → MakesWithin depth_of_expr (n + 1) (slice_made free scopes (meaning container) (option_map meaning begin) (option_map meaning end) (option_map meaning step))
   unfolding slice_made
@@ -217,29 +217,29 @@ module _ (free : Names) (scopes : List Names) (n : ℕ) where
       bind-makes Shallow (maybe-nested begin first) (λ made_begin two.
       bind-makes Shallow (maybe-nested end second) (λ made_end three.
       bind-makes Shallow (maybe-nested step third) (λ made_step four.
-      within _ _ (e.Slice made made_begin made_end made_step) (omega (arith, is.depth_of_expr-Slice made made_begin made_end made_step))))))
+      within _ _ (e.Slice made made_begin made_end made_step) (omega (arith, is.fold_expr-Slice expr_depths made made_begin made_end made_step))))))
 
   call-nested : (function : BareExpr) (args : List BareArg) → ExprNested n function → All (ArgNested n) args → MakesWithin depth_of_expr (n + 1) (call_made free scopes (meaning function) (map arg_meaning args))
   unfolding call_made
   call-nested function args so all =
       bind-makes Shallow (so.expr free scopes) (λ made one.
       bind-makes Shallow (args-nested args all) (λ made_args few.
-      within _ _ (e.Call made made_args) (omega (arith, is.depth_of_expr-Call made made_args))))
+      within _ _ (e.Call made made_args) (omega (arith, is.fold_expr-Call expr_depths made made_args))))
 
   index_target-nested : (container at : BareExpr) → ExprNested n container → ExprNested n at → MakesWithin depth_of_target (n + 1) (index_target free scopes (meaning container) (meaning at))
   unfolding index_target
   index_target-nested container at so also =
       bind-makes Shallow (so.expr free scopes) (λ made one.
       bind-makes Shallow (also.expr free scopes) (λ made_at two.
-      within _ _ (target_tree.Index made made_at) (omega (arith, is.depth_of_target-Index made made_at))))
+      within _ _ (target_tree.Index made made_at) (omega (arith, is.fold_target-Index expr_depths made made_at))))
 
   many_target-nested : (targets : List BareExpr) → All (ExprNested n) targets → MakesWithin depth_of_target (n + 1) (many_target free scopes (map meaning targets))
   unfolding many_target
-  many_target-nested targets all = bind-makes Shallow (targets-nested targets all) (λ made few. within _ _ (target_tree.Many made) (omega (arith, is.depth_of_target-Many made, few)))
+  many_target-nested targets all = bind-makes Shallow (targets-nested targets all) (λ made few. within _ _ (target_tree.Many made) (omega (arith, is.fold_target-Many expr_depths made, few)))
 
   named_arg-nested : (name : List ℕ) (value : BareExpr) → ExprNested n value → MakesWithin depth_of_arg n (named_arg_made free scopes name (meaning value))
   unfolding named_arg_made
-  named_arg-nested name value so = bind-makes Shallow (so.expr free scopes) (λ made one. within _ n (arg_tree.Named name made) (omega (arith, is.depth_of_arg-Named name made, one)))
+  named_arg-nested name value so = bind-makes Shallow (so.expr free scopes) (λ made one. within _ n (arg_tree.Named name made) (omega (arith, is.fold_arg-Named expr_depths name made, one)))
 
   optional-nested : (name : List ℕ) (default : BareExpr) → ExprNested n default → MakesWithin depth_of_param n (optional_made free scopes name (meaning default))
   unfolding optional_made
@@ -250,14 +250,14 @@ module _ (free : Names) (scopes : List Names) (n : ℕ) where
   pair-nested key value so also =
       bind-makes Shallow (so.expr free scopes) (λ made_key one.
       bind-makes Shallow (also.expr free scopes) (λ made two.
-      within _ n (roll-ExprPair (record { key = made_key; value = made })) (omega (arith, is.depth_of_pair-roll made_key made))))
+      within _ n (roll-ExprPair (record { key = made_key; value = made })) (omega (arith, is.fold_pair-roll expr_depths made_key made))))
 
 for_clause-nested : (n : ℕ) (free : Names) (inner around : List Names) (to over : BareExpr) → ExprNested n to → ExprNested n over → MakesWithin depth_of_clause n (for_clause_made free inner around (meaning to) (meaning over))
 unfolding for_clause_made
 for_clause-nested n free inner around to over so also =
     bind-makes Shallow (so.target free inner) (λ made_to one.
     bind-makes Shallow (also.expr free around) (λ made two.
-    within _ n (clause_tree.For made_to made) (omega (arith, is.depth_of_clause-For made_to made))))
+    within _ n (clause_tree.For made_to made) (omega (arith, is.fold_clause-For expr_depths made_to made))))
 
 -- ---- what is made of each construct
 
@@ -290,19 +290,19 @@ pair_meaning-roll key value = search (rules, the_lemmas)
 
 -- what is no target makes one with nothing in it
 no_target : (n : ℕ) → MakesWithin depth_of_target (n + 1) (pure (target_tree.Many []))
-no_target n = within _ _ (target_tree.Many []) (omega (arith, is.depth_of_target-Many []))
+no_target n = within _ _ (target_tree.Many []) (omega (arith, is.fold_target-Many expr_depths []))
 
 pub name-within : (name : BareName) → ExprNested 1 (bare.Name name)
 name-within name = subst (ExprWithin 1) (sym (layer.meaning-Name name)) (record {
-  expr = λ free scopes. within _ 1 (e.Name (variable free scopes name.name)) (omega (arith, is.depth_of_expr-Name (variable free scopes name.name)));
-  target = λ free scopes. within _ 1 (target_tree.Name (variable free scopes name.name)) (omega (arith, is.depth_of_target-Name (variable free scopes name.name)));
+  expr = λ free scopes. within _ 1 (e.Name (variable free scopes name.name)) (omega (arith, is.fold_expr-Name expr_depths (variable free scopes name.name)));
+  target = λ free scopes. within _ 1 (target_tree.Name (variable free scopes name.name)) (omega (arith, is.fold_target-Name expr_depths (variable free scopes name.name)));
 })
 
 pub int-within : (value : ℤ) → ExprNested 1 (bare.Int value)
-int-within value = subst (ExprWithin 1) (sym (layer.meaning-Int value)) (record { expr = λ free scopes. within _ 1 (e.Int value) (omega (arith, is.depth_of_expr-Int value)); target = λ free scopes. no_target 0 })
+int-within value = subst (ExprWithin 1) (sym (layer.meaning-Int value)) (record { expr = λ free scopes. within _ 1 (e.Int value) (omega (arith, is.fold_expr-Int expr_depths value)); target = λ free scopes. no_target 0 })
 
 pub text-within : (text : List ℕ) → ExprNested 1 (bare.Text text)
-text-within text = subst (ExprWithin 1) (sym (layer.meaning-Text text)) (record { expr = λ free scopes. within _ 1 (e.Text text) (omega (arith, is.depth_of_expr-Text text)); target = λ free scopes. no_target 0 })
+text-within text = subst (ExprWithin 1) (sym (layer.meaning-Text text)) (record { expr = λ free scopes. within _ 1 (e.Text text) (omega (arith, is.fold_expr-Text expr_depths text)); target = λ free scopes. no_target 0 })
 
 pub bracketed-within : (n : ℕ) (inside : BareExpr) → ExprNested n inside → ExprNested (n + 1) (bare.Bracketed inside)
 bracketed-within n inside so = subst (ExprWithin (n + 1)) (sym (layer.meaning-Bracketed inside)) (deeper-meaning n (n + 1) (meaning inside) (omega arith) so)
@@ -347,22 +347,22 @@ pub call-within : (n : ℕ) (function : BareExpr) (args : List BareArg) → Expr
 call-within n function args so _ all = subst (ExprWithin (n + 1)) (sym (layer.meaning-Call function args)) (record { expr = λ free scopes. call-nested free scopes n function args so all; target = λ free scopes. no_target n })
 
 pub positional-within : (n : ℕ) (value : BareExpr) → ExprNested n value → ArgNested n (bare_arg.Positional value)
-positional-within n value so = subst (ArgWithin n) (sym (layer.arg_meaning-Positional value)) (record { arg = λ free scopes. bind-makes Shallow (so.expr free scopes) (λ made one. within _ n (arg_tree.Positional made) (omega (arith, is.depth_of_arg-Positional made, one))) })
+positional-within n value so = subst (ArgWithin n) (sym (layer.arg_meaning-Positional value)) (record { arg = λ free scopes. bind-makes Shallow (so.expr free scopes) (λ made one. within _ n (arg_tree.Positional made) (omega (arith, is.fold_arg-Positional expr_depths made, one))) })
 
 pub named-within : (n : ℕ) (name : List ℕ) (value : BareExpr) → ExprNested n value → ArgNested n (bare_arg.Named name value)
 named-within n name value so = subst (ArgWithin n) (sym (layer.arg_meaning-Named name value)) (record { arg = λ free scopes. named_arg-nested free scopes n name value so })
 
 pub star-within : (n : ℕ) (value : BareExpr) (line : ℕ) → ExprNested n value → ArgNested n (bare_arg.Star value line)
-star-within n value line so = subst (ArgWithin n) (sym (layer.arg_meaning-Star value line)) (record { arg = λ free scopes. bind-makes Shallow (so.expr free scopes) (λ made one. within _ n (arg_tree.Star made) (omega (arith, is.depth_of_arg-Star made, one))) })
+star-within n value line so = subst (ArgWithin n) (sym (layer.arg_meaning-Star value line)) (record { arg = λ free scopes. bind-makes Shallow (so.expr free scopes) (λ made one. within _ n (arg_tree.Star made) (omega (arith, is.fold_arg-Star expr_depths made, one))) })
 
 pub double_star-within : (n : ℕ) (value : BareExpr) (line : ℕ) → ExprNested n value → ArgNested n (bare_arg.DoubleStar value line)
-double_star-within n value line so = subst (ArgWithin n) (sym (layer.arg_meaning-DoubleStar value line)) (record { arg = λ free scopes. bind-makes Shallow (so.expr free scopes) (λ made one. within _ n (arg_tree.DoubleStar made) (omega (arith, is.depth_of_arg-DoubleStar made, one))) })
+double_star-within n value line so = subst (ArgWithin n) (sym (layer.arg_meaning-DoubleStar value line)) (record { arg = λ free scopes. bind-makes Shallow (so.expr free scopes) (λ made one. within _ n (arg_tree.DoubleStar made) (omega (arith, is.fold_arg-DoubleStar expr_depths made, one))) })
 
 pub for_clause-within : (n : ℕ) (to over : BareExpr) → ExprNested n to → ExprNested n over → ClauseNested n (bare_clause.For to over)
 for_clause-within n to over so also = subst (ClauseWithin n) (sym (layer.clause_meaning-For to over)) (record { clause = λ free inner around. for_clause-nested n free inner around to over so also })
 
 pub if_clause-within : (n : ℕ) (test : BareExpr) → ExprNested n test → ClauseNested n (bare_clause.If test)
-if_clause-within n test so = subst (ClauseWithin n) (sym (layer.clause_meaning-If test)) (record { clause = λ free inner around. bind-makes Shallow (so.expr free inner) (λ made one. within _ n (clause_tree.If made) (omega (arith, is.depth_of_clause-If made, one))) })
+if_clause-within n test so = subst (ClauseWithin n) (sym (layer.clause_meaning-If test)) (record { clause = λ free inner around. bind-makes Shallow (so.expr free inner) (λ made one. within _ n (clause_tree.If made) (omega (arith, is.fold_clause-If expr_depths made, one))) })
 
 pub required-within : (name : List ℕ) → ParamNested 1 (bare_param.Required name)
 required-within name = subst (ParamWithin 1) (sym (layer.param_meaning-Required name)) (record { param = λ free scopes. within _ 1 (param_tree.Required name) (omega arith) })

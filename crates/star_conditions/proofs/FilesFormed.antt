@@ -4,21 +4,21 @@ use Rattle.std.proofs.lemmas.Bool.{and_from}
 use Rattle.std.proofs.lemmas.List.Elements.{All-head, All-same, All-tail}
 use Rattle.star_conditions.proofs.ExpressionForms as expression
 use Rattle.star_conditions.proofs.ExpressionForms.{RightCode, right, ExprRight, ArgRight, ClauseRight, ParamRight, PairRight}
-use Rattle.star_conditions.proofs.FormLayers as is
+use Rattle.star_trees.proofs.Folds as is
 use Rattle.star_conditions.proofs.Conditions.{Conditions, ExpressionsKeep, StatementsKeep}
 use Rattle.star_conditions.proofs.SpelledStatements.{IsFile-held}
 use Rattle.star_conditions.proofs.StatementForms as statement
 use Rattle.star_conditions.proofs.StatementForms.{StmtRight, body-right, on_line-right}
-use Rattle.star_conditions.specs.Orders.{HasNoRefusedForm, right_code}
+use Rattle.star_trees.specs.Orders.{HasNoRefusedForm, right_code, stmt_forms}
 use Rattle.star_trees.specs.declared.files.File.{File}
 use Rattle.star_trees.specs.declared.trees.StmtKind as st
 use Rattle.star_grammar.specs.declared.bare_statements.BareFile.{BareFile}
 use Rattle.star_grammar.specs.declared.bare_statements.BareStmt.{BareStmt}
-use Rattle.star_grammar.specs.Orders.{all_of}
-use Rattle.star_grammar.specs.Statements.{at_top}
+use Rattle.star_trees.specs.Lists.{all_of}
+use Rattle.star_trees.specs.Surroundings.{at_top}
 use Rattle.star_grammar.specs.Symbols.{symbols_of}
 use Rattle.star_grammar.specs.Texts.{Spelled}
-use Rattle.star_names.specs.Variables.{Names}
+use Rattle.star_trees.specs.Variables.{Names}
 use Rattle.star_scopes.proofs.StatementLayers as layer
 use Rattle.star_scopes.specs.declared.dialects.Dialect.{Dialect}
 use Rattle.star_scopes.specs.declared.unbound.Unbound.{Unbound}
@@ -71,9 +71,9 @@ statements-formed = record {
   deeper_stmt = λ inside n m tree below so. so;
   returned_nothing = λ inside line may. on_line-right line inside _ _ (layer.kind_meaning-Return None) (record { kind = λ line free scopes. statement.return_nothing-right free scopes inside may });
   returned = λ inside line n value may so. on_line-right line inside _ _ (layer.kind_meaning-Return (Some value)) (record { kind = λ line free scopes. statement.return-right free scopes inside value may so });
-  breaks = λ inside line may. on_line-right line inside _ _ layer.kind_meaning-Break (record { kind = λ line free scopes. right _ st.Break (is.stands_as-Break inside ∙ may) });
-  continues = λ inside line may. on_line-right line inside _ _ layer.kind_meaning-Continue (record { kind = λ line free scopes. right _ st.Continue (is.stands_as-Continue inside ∙ may) });
-  passes = λ inside line. on_line-right line inside _ _ layer.kind_meaning-Pass (record { kind = λ line free scopes. right _ st.Pass (is.stands_as-Pass inside) });
+  breaks = λ inside line may. on_line-right line inside _ _ layer.kind_meaning-Break (record { kind = λ line free scopes. right _ st.Break ((λ i. is.fold_kind-Break stmt_forms i inside) ∙ may) });
+  continues = λ inside line may. on_line-right line inside _ _ layer.kind_meaning-Continue (record { kind = λ line free scopes. right _ st.Continue ((λ i. is.fold_kind-Continue stmt_forms i inside) ∙ may) });
+  passes = λ inside line. on_line-right line inside _ _ layer.kind_meaning-Pass (record { kind = λ line free scopes. right _ st.Pass ((λ i. is.fold_kind-Pass stmt_forms i inside)) });
   loads = λ inside line n file names may. on_line-right line inside _ _ (layer.kind_meaning-Load file names) (record { kind = λ line free scopes. statement.load-right inside file names line may });
   assigned = λ inside line n to value target so also. on_line-right line inside _ _ (layer.kind_meaning-Assign to value) (record { kind = λ line free scopes. statement.assign-right free scopes inside to value target so also });
   changed = λ inside line n place op value named so also. on_line-right line inside _ _ (layer.kind_meaning-Augment place op value) (record { kind = λ line free scopes. statement.augment-right free scopes inside place op value named so also });

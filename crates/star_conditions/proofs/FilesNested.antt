@@ -7,14 +7,14 @@ use Rattle.star_conditions.proofs.Conditions.{Conditions, ExpressionsKeep, State
 use Rattle.star_conditions.proofs.SpelledStatements.{IsFile-held}
 use Rattle.star_conditions.proofs.StatementNesting as statement
 use Rattle.star_conditions.proofs.StatementNesting.{StmtNested, body-nested}
-use Rattle.star_conditions.specs.Nesting.{NestedWithin, depth_of_code}
-use Rattle.star_conditions.specs.Places.{greatest}
+use Rattle.star_trees.specs.Nesting.{NestedWithin, depth_of_code}
+use Rattle.star_trees.specs.Indexes.{greatest}
 use Rattle.star_trees.specs.declared.files.File.{File}
 use Rattle.star_grammar.specs.declared.bare_statements.BareFile.{BareFile}
 use Rattle.star_grammar.specs.declared.bare_statements.BareStmt.{BareStmt}
 use Rattle.star_grammar.specs.Symbols.{symbols_of}
 use Rattle.star_grammar.specs.Texts.{Spelled}
-use Rattle.star_names.specs.Variables.{Names}
+use Rattle.star_trees.specs.Variables.{Names}
 use Rattle.star_scopes.specs.declared.dialects.Dialect.{Dialect}
 use Rattle.star_scopes.specs.declared.unbound.Unbound.{Unbound}
 use Rattle.star_scopes.specs.Files.{file_scopes, file_with, free_names, no_lists, resolved, with_free}

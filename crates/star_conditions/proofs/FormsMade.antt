@@ -4,8 +4,8 @@ use Rattle.std.proofs.lemmas.Bool.{and_from, and_parts, false≢true}
 use Rattle.std.proofs.lemmas.List.Elements.{All-cons, All-head, All-nil, All-tail}
 use Rattle.std.specs.List.{AllZip}
 use Rattle.star_conditions.proofs.Conditions.{ForFirst}
-use Rattle.star_conditions.specs.Orders as form
-use Rattle.star_conditions.specs.Orders.{ArgForm, ClauseForm, given, right_param}
+use Rattle.star_trees.specs.Orders as form
+use Rattle.star_trees.specs.Orders.{ArgForm, ClauseForm, given, right_param}
 use Rattle.star_trees.specs.declared.files.Param.{Param}
 use Rattle.star_grammar.specs.declared.bare_expressions.BareArg.{BareArg, out-BareArg}
 use Rattle.star_grammar.specs.declared.bare_expressions.BareArg.TheOpen.{BareClause-F}
@@ -14,7 +14,8 @@ use Rattle.star_grammar.specs.declared.bare_expressions.BareExpr.{BareExpr, the_
 use Rattle.star_grammar.specs.declared.bare_expressions.BarePair.{BarePair}
 use Rattle.star_grammar.specs.declared.bare_expressions.BareParam.{BareParam, out-BareParam}
 use Rattle.star_grammar.specs.Orders as bare
-use Rattle.star_grammar.specs.Orders.{ArgLayer, all_different, all_of, arg_name, arg_names, arg_stage, args_in_order, is_target, may_follow, some_and_all, with_name}
+use Rattle.star_grammar.specs.Orders.{ArgLayer, arg_name, arg_names, arg_stage, args_in_order, is_target}
+use Rattle.star_trees.specs.Lists.{all_different, all_of, may_follow, some_and_all, with_name}
 
 -- ---- lists of what is right
 

@@ -7,8 +7,7 @@ use Rattle.std.specs.List.{list_any, prefix_len}
 use Rattle.std.specs.Option.{is_some}
 use Rattle.std.specs.Str.{bytes_eq}
 use Rattle.star_grammar.specs.declared.bare_expressions.BareName.{BareName}
-use Rattle.star_names.specs.Variables.{Names, found, found_here, place, with_binding}
-use Rattle.star_scopes.specs.Bindings.{Binding, each_binds, name_binds}
+use Rattle.star_trees.specs.Variables.{Names, scope_and_slot, here_or_further, slot_of, with_binding, Binding, each_binds, name_binds}
 use Rattle.star_scopes.specs.declared.dialects.Dialect.{Dialect}
 use Rattle.star_scopes.specs.declared.unbound.Unbound.{Unbound}
 use Rattle.star_scopes.specs.FreeNames.{has_free}
@@ -107,7 +106,7 @@ gathered-has false name before after is = absurd (subst (λ (result : Result Nam
 
 pub name_uses-grows : (name : BareName) (dialect : Dialect) (scopes : List Names) → Grows (name_uses name dialect scopes)
 unfolding name_uses
-name_uses-grows name dialect scopes = by (found scopes name.name)
+name_uses-grows name dialect scopes = by (scope_and_slot scopes name.name)
   where
     by : (at : Option (ℕ × ℕ)) → Grows (use_found dialect name at)
     by (Some variable) = no_use-grows
@@ -117,9 +116,9 @@ name_uses-grows name dialect scopes = by (found scopes name.name)
 pub record FreeThere (free : Names) (name : List ℕ) (at : Option (ℕ × ℕ)) : Type 0 where
   pub has : at ≡ None → Has free name
 
-pub name-covered : (free : Names) (name : BareName) (dialect : Dialect) (scopes : List Names) → Covered free (name_uses name dialect scopes) → FreeThere free name.name (found scopes name.name)
+pub name-covered : (free : Names) (name : BareName) (dialect : Dialect) (scopes : List Names) → Covered free (name_uses name dialect scopes) → FreeThere free name.name (scope_and_slot scopes name.name)
 unfolding name_uses
-name-covered free name dialect scopes covered = by (found scopes name.name) covered.gathers
+name-covered free name dialect scopes covered = by (scope_and_slot scopes name.name) covered.gathers
   where
     by : (at : Option (ℕ × ℕ)) → use_found dialect name at covered.before ≡ Ok covered.after → FreeThere free name.name at
     by (Some variable) is = record { has = λ none. absurd (subst (λ (one : Option (ℕ × ℕ)). IfSome one (λ _. ⊥)) (sym none) tt) }
@@ -135,8 +134,8 @@ prefix-short passes (x ∷ xs) any = by (passes x) any (prefix-short passes xs)
     by true so rest = omega arith
     by false so rest = let further = rest so in omega (arith, further)
 
-pub has-place : (free : Names) (name : List ℕ) → Has free name → place free name ≡ Some (prefix_len (λ x. not (bytes_eq name x)) free)
-has-place free name has = ap (λ t. cond t (Some (prefix_len (λ x. not (bytes_eq name x)) free)) None) (lt-ltb _ _ (prefix-short (bytes_eq name) free has))
+pub has-slot : (free : Names) (name : List ℕ) → Has free name → slot_of free name ≡ Some (prefix_len (λ x. not (bytes_eq name x)) free)
+has-slot free name has = ap (λ t. cond t (Some (prefix_len (λ x. not (bytes_eq name x)) free)) None) (lt-ltb _ _ (prefix-short (bytes_eq name) free has))
 
 -- bindings that keep what was bound before
 pub record Keeps (bound : Binding) : Type 0 where
@@ -161,13 +160,13 @@ first-bounded scopes first second keeps bounded = record { before = bounded.befo
 pub second-bounded : (scopes : List Names) (first second : Binding) → Bounded scopes (λ names. second (first names)) → Bounded scopes second
 second-bounded scopes first second bounded = record { before = first bounded.before; within = bounded.within }
 
-has-found : (scopes : List Names) (name : List ℕ) → Has (here scopes) name → is_some (found scopes name) ≡ true
-has-found [] name has = absurd (true≢false (sym has))
-has-found (names ∷ outer) name has = ap (λ at. is_some (found_here at (found outer name))) (has-place names name has)
+scope_and_slot-bound : (scopes : List Names) (name : List ℕ) → Has (here scopes) name → is_some (scope_and_slot scopes name) ≡ true
+scope_and_slot-bound [] name has = absurd (true≢false (sym has))
+scope_and_slot-bound (names ∷ outer) name has = ap (λ at. is_some (here_or_further at (scope_and_slot outer name))) (has-slot names name has)
 
 -- a name that is bound where it stands is no free name
-pub bound-there : (free : Names) (scopes : List Names) (name : List ℕ) → Bounded scopes (name_binds name) → FreeThere free name (found scopes name)
-bound-there free scopes name bounded = record { has = λ none. absurd (true≢false (sym (has-found scopes name (bounded.within.has name (with_binding-has bounded.before name))) ∙ ap is_some none)) }
+pub bound-there : (free : Names) (scopes : List Names) (name : List ℕ) → Bounded scopes (name_binds name) → FreeThere free name (scope_and_slot scopes name)
+bound-there free scopes name bounded = record { has = λ none. absurd (true≢false (sym (scope_and_slot-bound scopes name (bounded.within.has name (with_binding-has bounded.before name))) ∙ ap is_some none)) }
 
 -- ---- each of some
 

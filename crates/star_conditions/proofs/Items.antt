@@ -1,9 +1,9 @@
 -- What holds of all items of a list, at each.
 use Rattle.std.proofs.Common.{◌≡◌, ℕ, zero, suc, ◌≤◌, ◌<◌, true, List, [], ◌∷◌, length, map, get_or, arith}
 use Rattle.std.proofs.lemmas.Bool.{and_parts}
-use Rattle.star_conditions.specs.Places.{greatest}
-use Rattle.star_conditions.specs.Counted.{Tally, all_counted}
-use Rattle.star_names.specs.Variables.{Names}
+use Rattle.star_trees.specs.Indexes.{greatest}
+use Rattle.star_trees.specs.Counted.{Tally, all_counted}
+use Rattle.star_trees.specs.Variables.{Names}
 
 pub greatest-at : {A : Type 0} (f : A → ℕ) (xs : List A) (i : ℕ) (d : A) → i < length xs → f (get_or xs i d) ≤ greatest (map f xs)
 greatest-at f [] i d below = absurd (omega (arith, below))

@@ -5,10 +5,11 @@ use Rattle.std.specs.List.{AllZip}
 use Rattle.star_conditions.proofs.Trees.{Lists}
 use Rattle.star_trees.specs.declared.files.FnCode.{FnCode}
 use Rattle.star_trees.specs.declared.loads.Load.{Load}
-use Rattle.star_scopes.specs.Making.{Making, ◌>>=◌, ◌>>◌, pure, each, begin, begun, finish, load}
+use Rattle.star_scopes.specs.Making.{Making, ◌>>=◌, ◌>>◌, pure, each, begin, finish, load}
+use Rattle.star_trees.specs.Functions.{unfinished_code}
 
 -- a place that was taken behind some functions is put a code, whatever came behind it
-set-behind : (before more : List FnCode) (code : FnCode) → set ((before ++ begun ∷ []) ++ more) (length before) code ≡ before ++ code ∷ more
+pub set-behind : (before more : List FnCode) (code : FnCode) → set ((before ++ unfinished_code ∷ []) ++ more) (length before) code ≡ before ++ code ∷ more
 set-behind [] more code = refl
 set-behind (first ∷ before) more code = ap (λ rest. first ∷ rest) (set-behind before more code)
 

@@ -6,17 +6,17 @@ use Rattle.std.proofs.lemmas.Bool.{and_parts, eqb-true}
 use Rattle.std.proofs.lemmas.List.Quantifiers.{position-Some}
 use Rattle.std.proofs.lemmas.Slice.Eq.{bytes_eq-Decides}
 use Rattle.std.specs.Str.{bytes_eq}
-use Rattle.star_conditions.specs.Counted.{StandsThere, is_place, is_variable, variable_counted}
+use Rattle.star_trees.specs.Counted.{StandsThere, is_slot, is_variable, variable_counted}
 use Rattle.star_trees.specs.declared.trees.Var.{Var}
-use Rattle.star_names.specs.Variables.{Names, found, found_here, place}
+use Rattle.star_trees.specs.Variables.{Names, scope_and_slot, here_or_further, slot_of}
 
 -- a slot of some names has this name
 record HasAt (names : Names) (name : List ℕ) (slot : ℕ) : Type 0 where
   pub within : slot < length names
   pub same : get_or names slot [] ≡ name
 
-has-place : (names : Names) (name : List ℕ) (slot : ℕ) → place names name ≡ Some slot → HasAt names name slot
-has-place names name slot is =
+has-slot : (names : Names) (name : List ℕ) (slot : ℕ) → slot_of names name ≡ Some slot → HasAt names name slot
+has-slot names name slot is =
     let at = position-Some (bytes_eq name) names slot [] is in
     record { within = at.0; same = sym ((bytes_eq-Decides name (get_or names slot [])).0 at.1) }
 
@@ -25,20 +25,20 @@ record FoundAt (scopes : List Names) (name : List ℕ) (at : ℕ × ℕ) : Type 
   pub within : at.0 < length scopes
   pub has : HasAt (get_or scopes at.0 []) name at.1
 
-found_here-at : (names : Names) (outer : List Names) (name : List ℕ) (here : Option ℕ) (outside : Option (ℕ × ℕ)) → place names name ≡ here → IfSome outside (FoundAt outer name) → IfSome (found_here here outside) (FoundAt (names ∷ outer) name)
-found_here-at names outer name (Some slot) outside is so = record { within = omega arith; has = has-place names name slot is }
-found_here-at names outer name None None is so = tt
-found_here-at names outer name None (Some at) is so =
+here_or_further-at : (names : Names) (outer : List Names) (name : List ℕ) (here : Option ℕ) (outside : Option (ℕ × ℕ)) → slot_of names name ≡ here → IfSome outside (FoundAt outer name) → IfSome (here_or_further here outside) (FoundAt (names ∷ outer) name)
+here_or_further-at names outer name (Some slot) outside is so = record { within = omega arith; has = has-slot names name slot is }
+here_or_further-at names outer name None None is so = tt
+here_or_further-at names outer name None (Some at) is so =
     let below = so.within in
     record { within = omega (arith, below); has = subst (λ n. HasAt (get_or (names ∷ outer) n []) name at.1) (sym (add-one at.0)) so.has }
 
-found-at : (scopes : List Names) (name : List ℕ) → IfSome (found scopes name) (FoundAt scopes name)
-found-at [] name = tt
-found-at (names ∷ outer) name = found_here-at names outer name (place names name) (found outer name) refl (found-at outer name)
+scope_and_slot-at : (scopes : List Names) (name : List ℕ) → IfSome (scope_and_slot scopes name) (FoundAt scopes name)
+scope_and_slot-at [] name = tt
+scope_and_slot-at (names ∷ outer) name = here_or_further-at names outer name (slot_of names name) (scope_and_slot outer name) refl (scope_and_slot-at outer name)
 
-place-at : (free : Names) (name : List ℕ) (slot : ℕ) (at : Option ℕ) → place free name ≡ at → is_place at slot ≡ true → HasAt free name slot
-place-at free name slot (Some one) is so = subst (HasAt free name) (sym (eqb-true slot one so)) (has-place free name one is)
-place-at free name slot None is so = absurd (true≢false (sym so))
+slot-at : (free : Names) (name : List ℕ) (slot : ℕ) (at : Option ℕ) → slot_of free name ≡ at → is_slot at slot ≡ true → HasAt free name slot
+slot-at free name slot (Some one) is so = subst (HasAt free name) (sym (eqb-true slot one so)) (has-slot free name one is)
+slot-at free name slot None is so = absurd (true≢false (sym so))
 
 variable-stands : (free : Names) (scopes : List Names) (variable : Var) (at : Option (ℕ × ℕ)) → IfSome at (FoundAt scopes variable.name) → is_variable free scopes variable at ≡ true → StandsThere free scopes variable
 variable-stands free scopes variable (Some at) so is =
@@ -49,12 +49,12 @@ variable-stands free scopes variable (Some at) so is =
     (subst (λ names. HasAt names variable.name at.1) (sym (get_or-append scopes (free ∷ []) [] at.0 so.within)) so.has)) in
     record { slot = has.within; name = has.same }
 variable-stands free scopes variable None so is =
-    let parts = and_parts (eqb variable.scope (length scopes)) (is_place (place free variable.name) variable.slot) is in
+    let parts = and_parts (eqb variable.scope (length scopes)) (is_slot (slot_of free variable.name) variable.slot) is in
     let has : HasAt (get_or (scopes ++ free ∷ []) variable.scope []) variable.name variable.slot =
     subst (λ scope. HasAt (get_or (scopes ++ free ∷ []) scope []) variable.name variable.slot) (sym (eqb-true variable.scope (length scopes) parts.0))
-    (subst (λ names. HasAt names variable.name variable.slot) (sym (get_or-append_seam scopes free [] [])) (place-at free variable.name variable.slot (place free variable.name) refl parts.1)) in
+    (subst (λ names. HasAt names variable.name variable.slot) (sym (get_or-append_seam scopes free [] [])) (slot-at free variable.name variable.slot (slot_of free variable.name) refl parts.1)) in
     record { slot = has.within; name = has.same }
 
 pub counted-stands : (free : Names) (scopes : List Names) (variable : Var) → variable_counted free variable scopes ≡ true → StandsThere free scopes variable
 unfolding variable_counted
-counted-stands free scopes variable is = variable-stands free scopes variable (found scopes variable.name) (found-at scopes variable.name) is
+counted-stands free scopes variable is = variable-stands free scopes variable (scope_and_slot scopes variable.name) (scope_and_slot-at scopes variable.name) is

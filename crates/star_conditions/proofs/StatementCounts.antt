@@ -1,15 +1,15 @@
 -- What is made of statements binds what they do, and its variables are counted right.
 use Rattle.std.proofs.Common.{◌≡◌, ℕ, true, List, [], ◌∷◌, map, Option, Some, None, refl, ap, subst, sym, ◌∙◌}
 use Rattle.std.proofs.lemmas.Bool.{and_from}
-use Rattle.star_conditions.proofs.CountLayers as is
+use Rattle.star_trees.proofs.Folds as is
 use Rattle.star_conditions.proofs.CountsMade.{Whole, back, Always, Pairwise, Fits, done, bind-good, then, first, only, each-good, all-fit, all-bound, begin-good, finish-good, load-good}
 use Rattle.star_conditions.proofs.ExpressionCounts.{ParamFits, fits-by, plain-fits, expr-sound, param-sound}
 use Rattle.star_conditions.proofs.FreeUses.{Bounded, Covered, Grows, Keeps, binds-keep, both-grow, both-keep, bound-there, each-apply, each-bounded, each-grows, each-of, each-sure, first-bounded, first-covered, no_use-grows, second-bounded, second-covered, with_binding-within, within-self}
 use Rattle.star_conditions.proofs.MeaningInduction.{KindParts, StmtParts, meant-kind, meant-stmt, of-stmt}
 use Rattle.star_conditions.proofs.Trees.{With, bare}
 use Rattle.star_conditions.proofs.VariablesFound.{same_scopes-self, variable-counted, variable-named}
-use Rattle.star_conditions.specs.Counted as counted
-use Rattle.star_conditions.specs.Counted.{Tally, all_counted, bound_of, code_counted, expr_in, kind_in, no_load, param_tally, same_scopes, stmt_in, variable_counted}
+use Rattle.star_trees.specs.Counted as counted
+use Rattle.star_trees.specs.Counted.{Tally, all_counted, bound_of, code_counted, expr_in, kind_in, no_load, param_tally, same_scopes, stmt_in, variable_counted, stmt_tallies}
 use Rattle.star_trees.specs.declared.loads.Load.{Load}
 use Rattle.star_trees.specs.declared.trees.BinOp.{BinOp}
 use Rattle.star_trees.specs.declared.trees.Stmt.{Stmt, roll-Stmt}
@@ -21,14 +21,14 @@ use Rattle.star_grammar.specs.declared.bare_expressions.BareParam.{BareParam}
 use Rattle.star_grammar.specs.declared.bare_statements.BareLoadName.{BareLoadName}
 use Rattle.star_grammar.specs.declared.bare_statements.BareStmt.{BareStmt}
 use Rattle.star_grammar.specs.declared.bare_statements.BareStmtKind.TheOpen.{BareStmtKind-F}
-use Rattle.star_names.specs.Variables.{Names}
-use Rattle.star_scopes.specs.Bindings.{each_binds, loaded_binds, name_binds, no_binding}
+use Rattle.star_trees.specs.Variables.{Names, each_binds, name_binds, no_binding, function_variables}
+use Rattle.star_scopes.specs.Bindings.{loaded_binds}
 use Rattle.star_scopes.specs.ExprMaking.{params_made}
 use Rattle.star_scopes.specs.ExprMeaning.{meaning, param_meaning}
 use Rattle.star_scopes.specs.ExprUses.{params_use, two_use}
 use Rattle.star_scopes.specs.Making.{pure, finish}
 use Rattle.star_scopes.specs.Meanings.{KindMeaning, ParamMeaning, StmtMeaning}
-use Rattle.star_scopes.specs.Scopes.{function_variables, variable}
+use Rattle.star_scopes.specs.Scopes.{variable}
 use Rattle.star_scopes.specs.StatementBinds.{body_binds, kind_binds}
 use Rattle.star_scopes.specs.StatementMaking.{def_code, load_of, load_made, body_made, if_made, for_made, return_made, assign_made, augment_made, value_made, def_made, kind_made, stmt_made}
 use Rattle.star_scopes.specs.StatementMeaning.{kind_meaning, kind_step, stmt_meaning, stmt_step}
@@ -108,7 +108,7 @@ loaded-bound (name ∷ names) = ap (λ more. loaded_binds name ∷ more) (loaded
 
 load-sound : (free : Names) (scopes : List Names) (file : List ℕ) (names : List BareLoadName) (line : ℕ) → Always free (λ whole made. Fits (kind_in free whole.loads whole.around made) scopes (each_binds (map loaded_binds names))) (load_made file names line)
 unfolding load_made
-load-sound free scopes file names line = first (load-good free (load_of file names line)) (λ place known at. done known (st.Load place) (λ whole keeps. fits-by (is.kind_in-Load free whole.loads whole.around place) (record {
+load-sound free scopes file names line = first (load-good free (load_of file names line)) (λ place known at. done known (st.Load place) (λ whole keeps. fits-by (is.fold_kind-Load (stmt_tallies free whole.loads whole.around) place) (record {
   counted = refl;
   bound = ap (λ (loaded : Load). each_binds (map counted.loaded_binds loaded.names)) (at whole keeps) ∙ ap each_binds (loaded-bound names);
 })))
@@ -142,7 +142,7 @@ module _ (dialect : Dialect) (free : Names) (scopes : List Names) where
       done last (st.If made made_chosen made_other) (λ whole keeps.
       let before = back further keeps in
       let tally = stmt_in free whole.loads whole.around in
-      fits-by (is.kind_in-If free whole.loads whole.around made made_chosen made_other) (record {
+      fits-by (is.fold_kind-If (stmt_tallies free whole.loads whole.around) made made_chosen made_other) (record {
         counted = and_from _ _ (one whole (back up before)).counted (and_from _ _ (all-fit tally (λ m. m.bound) scopes _ made_chosen (two whole before)) (all-fit tally (λ m. m.bound) scopes _ made_other (three whole keeps)));
         bound = λ i. λ names. each_binds (all-bound tally (λ m. m.bound) scopes _ made_other (three whole keeps) i) (each_binds (all-bound tally (λ m. m.bound) scopes _ made_chosen (two whole before) i) names);
       })))))
@@ -160,15 +160,15 @@ module _ (dialect : Dialect) (free : Names) (scopes : List Names) where
       let before = back further keeps in
       let target = one whole (back up before) in
       let tally = stmt_in free whole.loads whole.around in
-      fits-by (is.kind_in-For free whole.loads whole.around made_to made_over made) (record {
+      fits-by (is.fold_kind-For (stmt_tallies free whole.loads whole.around) made_to made_over made) (record {
         counted = and_from _ _ target.counted (and_from _ _ (two whole before).counted (all-fit tally (λ m. m.bound) scopes _ made (three whole keeps)));
         bound = λ i. λ names. each_binds (all-bound tally (λ m. m.bound) scopes _ made (three whole keeps) i) (target.bound i names);
       })))))
 
   return-sound : (value : Option BareExpr) → Covered free (return_uses dialect scopes value) → Always free Plain (return_made free scopes value)
   unfolding return_made return_uses
-  return-sound None covered = only (st.Return None) (λ whole. fits-by (is.kind_in-Return free whole.loads whole.around None) (plain-fits refl))
-  return-sound (Some value) covered = first ((expr-sound dialect free value).expr scopes covered) (λ made known one. done known (st.Return (Some made)) (λ whole keeps. fits-by (is.kind_in-Return free whole.loads whole.around (Some made)) (plain-fits (one whole keeps).counted)))
+  return-sound None covered = only (st.Return None) (λ whole. fits-by (is.fold_kind-Return (stmt_tallies free whole.loads whole.around) None) (plain-fits refl))
+  return-sound (Some value) covered = first ((expr-sound dialect free value).expr scopes covered) (λ made known one. done known (st.Return (Some made)) (λ whole keeps. fits-by (is.fold_kind-Return (stmt_tallies free whole.loads whole.around) (Some made)) (plain-fits (one whole keeps).counted)))
 
   assign-sound : (to value : BareExpr) → Covered free (two_use dialect scopes (meaning to) (meaning value)) → Always free (λ whole made. Fits (kind_in free whole.loads whole.around made) scopes (meaning to).bound) (assign_made free scopes to value)
   unfolding assign_made two_use
@@ -177,7 +177,7 @@ module _ (dialect : Dialect) (free : Names) (scopes : List Names) where
       then ((expr-sound dialect free value).expr scopes (second-covered _ covered)) (λ made later up two.
       done later (st.Assign made_to made) (λ whole keeps.
       let target = one whole (back up keeps) in
-      fits-by (is.kind_in-Assign free whole.loads whole.around made_to made) (record { counted = and_from _ _ target.counted (two whole keeps).counted; bound = target.bound }))))
+      fits-by (is.fold_kind-Assign (stmt_tallies free whole.loads whole.around) made_to made) (record { counted = and_from _ _ target.counted (two whole keeps).counted; bound = target.bound }))))
 
   augment-sound : (place : BareExpr) (op : BinOp) (value : BareExpr) → Covered free (two_use dialect scopes (meaning place) (meaning value)) → Always free (λ whole made. Fits (kind_in free whole.loads whole.around made) scopes (meaning place).bound) (augment_made free scopes place op value)
   unfolding augment_made two_use
@@ -186,11 +186,11 @@ module _ (dialect : Dialect) (free : Names) (scopes : List Names) where
       then ((expr-sound dialect free value).expr scopes (second-covered _ covered)) (λ made later up two.
       done later (st.Augment made_place op made) (λ whole keeps.
       let target = one whole (back up keeps) in
-      fits-by (is.kind_in-Augment free whole.loads whole.around made_place op made) (record { counted = and_from _ _ target.counted (two whole keeps).counted; bound = target.bound }))))
+      fits-by (is.fold_kind-Augment (stmt_tallies free whole.loads whole.around) made_place op made) (record { counted = and_from _ _ target.counted (two whole keeps).counted; bound = target.bound }))))
 
   value-sound : (value : BareExpr) → Covered free ((meaning value).uses dialect scopes) → Always free Plain (value_made free scopes value)
   unfolding value_made
-  value-sound value covered = first ((expr-sound dialect free value).expr scopes covered) (λ made known one. done known (st.Value made) (λ whole keeps. fits-by (is.kind_in-Value free whole.loads whole.around made) (plain-fits (one whole keeps).counted)))
+  value-sound value covered = first ((expr-sound dialect free value).expr scopes covered) (λ made known one. done known (st.Value made) (λ whole keeps. fits-by (is.fold_kind-Value (stmt_tallies free whole.loads whole.around) made) (plain-fits (one whole keeps).counted)))
 
 def-sound : (dialect : Dialect) (free : Names) (scopes : List Names) (name : BareName) (params : List BareParam) (body : List (SoundStmt dialect free)) (line : ℕ) → Bounded scopes (name_binds name.name) → Covered free (def_uses dialect scopes params (map stmt_meaning (map bare body)))
     → Always free (λ whole made. Fits (kind_in free whole.loads whole.around made) scopes (name_binds name.name)) (def_made free scopes name params (map stmt_meaning (map bare body)) line)
@@ -214,7 +214,7 @@ def-sound dialect free scopes name params body line bounded covered =
     subst (λ around. code_counted free whole.loads whole.around code around ≡ true) (sym (at whole (back up before)))
     (and_from _ _ (all-fit tally (λ m. m.bound) scopes _ made_params params_fit)
     (subst (λ variables. all_counted (map stmt_tally made) (variables ∷ scopes) ≡ true) (sym same_variables) (all-fit stmt_tally (λ m. m.bound) inner _ made body_fit))))) (λ _ end more _.
-    done end (st.Def place to) (λ whole keeps. fits-by (is.kind_in-Def free whole.loads whole.around place to) (record {
+    done end (st.Def place to) (λ whole keeps. fits-by (is.fold_kind-Def (stmt_tallies free whole.loads whole.around) place to) (record {
       counted = and_from _ _ (subst (λ around. same_scopes around scopes ≡ true) (sym (at whole (back up (back further (back more keeps))))) (same_scopes-self scopes)) (variable-counted free scopes name.name (bound-there free scopes name.name bounded));
       bound = ap name_binds (variable-named free scopes name.name);
     }))))))
@@ -262,9 +262,9 @@ module _ (dialect : Dialect) (free : Names) where
   kind-layer (BareStmtKind-F.If test chosen other) line scopes bounded covered = if-sound dialect free scopes test chosen other bounded covered
   kind-layer (BareStmtKind-F.For to over body) line scopes bounded covered = for-sound dialect free scopes to over body bounded covered
   kind-layer (BareStmtKind-F.Return value) line scopes bounded covered = return-sound dialect free scopes value covered
-  kind-layer BareStmtKind-F.Break line scopes bounded covered = only st.Break (λ whole. fits-by (is.kind_in-Break free whole.loads whole.around) (plain-fits refl))
-  kind-layer BareStmtKind-F.Continue line scopes bounded covered = only st.Continue (λ whole. fits-by (is.kind_in-Continue free whole.loads whole.around) (plain-fits refl))
-  kind-layer BareStmtKind-F.Pass line scopes bounded covered = only st.Pass (λ whole. fits-by (is.kind_in-Pass free whole.loads whole.around) (plain-fits refl))
+  kind-layer BareStmtKind-F.Break line scopes bounded covered = only st.Break (λ whole. fits-by (is.fold_kind-Break (stmt_tallies free whole.loads whole.around)) (plain-fits refl))
+  kind-layer BareStmtKind-F.Continue line scopes bounded covered = only st.Continue (λ whole. fits-by (is.fold_kind-Continue (stmt_tallies free whole.loads whole.around)) (plain-fits refl))
+  kind-layer BareStmtKind-F.Pass line scopes bounded covered = only st.Pass (λ whole. fits-by (is.fold_kind-Pass (stmt_tallies free whole.loads whole.around)) (plain-fits refl))
   kind-layer (BareStmtKind-F.Load file names) line scopes bounded covered = load-sound free scopes file names line
   kind-layer (BareStmtKind-F.Assign to value) line scopes bounded covered = assign-sound dialect free scopes to value covered
   kind-layer (BareStmtKind-F.Augment place op value) line scopes bounded covered = augment-sound dialect free scopes place op value covered
@@ -272,7 +272,7 @@ module _ (dialect : Dialect) (free : Names) where
 
   stmt-layer : (kind : SoundKind dialect free) (line : ℕ) (scopes : List Names) → Bounded scopes (kind_meaning kind.0).bound → Covered free ((kind_meaning kind.0).uses dialect scopes) → Always free (λ whole made. Fits (stmt_in free whole.loads whole.around made) scopes (kind_meaning kind.0).bound) (stmt_made (kind_meaning kind.0) line free scopes)
   unfolding stmt_made
-  stmt-layer kind line scopes bounded covered = first (kind.1.kind line scopes bounded covered) (λ made known one. done known (roll-Stmt (record { line = line; kind = made })) (λ whole keeps. fits-by (is.stmt_in-roll free whole.loads whole.around line made) (one whole keeps)))
+  stmt-layer kind line scopes bounded covered = first (kind.1.kind line scopes bounded covered) (λ made known one. done known (roll-Stmt (record { line = line; kind = made })) (λ whole keeps. fits-by (is.fold_stmt-roll (stmt_tallies free whole.loads whole.around) line made) (one whole keeps)))
 
   kind-sound : (layer : KindLayer) → KindSound dialect free (kind_step (kind-of layer))
   kind-sound layer = record { keeps = kind-binds-keep layer; grows = kind-uses-grow layer; kind = kind-layer layer }

@@ -3,11 +3,11 @@ use Rattle.std.proofs.Common.{◌≡◌, ℕ, true, List, [], ◌∷◌, map, Al
 use Rattle.std.proofs.lemmas.Bool.{and_from}
 use Rattle.std.specs.List.{AllZip}
 use Rattle.star_conditions.proofs.ExpressionForms.{RightCode, MakesRight, right, ExprRight, ParamRight, params-right}
-use Rattle.star_conditions.proofs.FormLayers as is
+use Rattle.star_trees.proofs.Folds as is
 use Rattle.star_conditions.proofs.FormsMade.{ParamsRight}
 use Rattle.star_conditions.proofs.Made.{pure-makes, bind-makes, makes-also, makes-both, each-makes, function-makes, load-makes}
 use Rattle.star_conditions.proofs.StatementNesting.{stmt_meaning-roll}
-use Rattle.star_conditions.specs.Orders.{all_stand, stands, stands_as}
+use Rattle.star_trees.specs.Orders.{all_stand, stands, stands_as, stmt_forms}
 use Rattle.star_trees.specs.declared.files.Param.{Param}
 use Rattle.star_trees.specs.declared.trees.BinOp.{BinOp}
 use Rattle.star_trees.specs.declared.trees.Stmt.{Stmt, roll-Stmt}
@@ -18,16 +18,17 @@ use Rattle.star_grammar.specs.declared.bare_expressions.BareParam.{BareParam}
 use Rattle.star_grammar.specs.declared.bare_statements.BareLoadName.{BareLoadName}
 use Rattle.star_grammar.specs.declared.bare_statements.BareStmt.{BareStmt}
 use Rattle.star_grammar.specs.declared.bare_statements.BareStmtKind.{BareStmtKind}
-use Rattle.star_grammar.specs.declared.bare_statements.Inside.{Inside}
+use Rattle.star_trees.specs.declared.inside.Inside.{Inside}
 use Rattle.star_grammar.specs.Orders as grammar
 use Rattle.star_grammar.specs.Orders.{is_target}
-use Rattle.star_grammar.specs.Statements.{on_line, in_branch, in_function, in_loop}
-use Rattle.star_names.specs.Variables.{Names}
+use Rattle.star_grammar.specs.Statements.{on_line}
+use Rattle.star_trees.specs.Surroundings.{in_branch, in_function, in_loop}
+use Rattle.star_trees.specs.Variables.{Names, function_variables}
 use Rattle.star_scopes.specs.ExprMaking.{params_made}
 use Rattle.star_scopes.specs.ExprMeaning.{param_meaning}
 use Rattle.star_scopes.specs.Making.{Making, ◌>>=◌, pure}
 use Rattle.star_scopes.specs.Meanings.{KindMeaning, StmtMeaning}
-use Rattle.star_scopes.specs.Scopes.{function_variables, variable}
+use Rattle.star_scopes.specs.Scopes.{variable}
 use Rattle.star_scopes.specs.StatementMaking.{def_code, load_of, load_made, body_made, if_made, for_made, return_made, assign_made, augment_made, value_made, def_made, stmt_made}
 use Rattle.star_scopes.specs.StatementMeaning.{kind_meaning, stmt_meaning}
 
@@ -48,7 +49,7 @@ all_stand-zipped inside (item ∷ items) (one ∷ made) all = and_from _ _ all.0
 
 pub load-right : (inside : Inside) (file : List ℕ) (names : List BareLoadName) (line : ℕ) → inside.top ≡ true → MakesRight (λ made. stands_as made inside) (load_made file names line)
 unfolding load_made
-load-right inside file names line may = bind-makes RightCode (load-makes RightCode (load_of file names line)) (λ place _. right _ (st.Load place) (is.stands_as-Load place inside ∙ may))
+load-right inside file names line may = bind-makes RightCode (load-makes RightCode (load_of file names line)) (λ place _. right _ (st.Load place) ((λ i. is.fold_kind-Load stmt_forms place i inside) ∙ may))
 
 module _ (free : Names) (scopes : List Names) (inside : Inside) where
   pub body-right : (body : List BareStmt) → All (StmtRight inside) body → MakesRight (λ made. all_stand (map stands made) inside) (body_made free scopes (map stmt_meaning body))
@@ -62,7 +63,7 @@ module _ (free : Names) (scopes : List Names) (inside : Inside) where
       bind-makes RightCode (so.expr free scopes) (λ made one.
       bind-makes RightCode (body-right free scopes (in_branch inside) chosen all) (λ made_chosen few.
       bind-makes RightCode (body-right free scopes (in_branch inside) other more) (λ made_other some.
-      right _ (st.If made made_chosen made_other) (is.stands_as-If made made_chosen made_other inside ∙ and_from _ _ one (and_from _ _ few some)))))
+      right _ (st.If made made_chosen made_other) ((λ i. is.fold_kind-If stmt_forms made made_chosen made_other i inside) ∙ and_from _ _ one (and_from _ _ few some)))))
 
   pub for-right : (to over : BareExpr) (body : List BareStmt) → is_target to ≡ true → ExprRight to → ExprRight over → All (StmtRight (in_loop inside)) body → MakesRight (λ made. stands_as made inside) (for_made free scopes to over (map stmt_meaning body))
   unfolding for_made
@@ -70,33 +71,33 @@ module _ (free : Names) (scopes : List Names) (inside : Inside) where
       bind-makes RightCode (so.target are free scopes) (λ made_to one.
       bind-makes RightCode (also.expr free scopes) (λ made_over two.
       bind-makes RightCode (body-right free scopes (in_loop inside) body all) (λ made few.
-      right _ (st.For made_to made_over made) (is.stands_as-For made_to made_over made inside ∙ and_from _ _ one (and_from _ _ two few)))))
+      right _ (st.For made_to made_over made) ((λ i. is.fold_kind-For stmt_forms made_to made_over made i inside) ∙ and_from _ _ one (and_from _ _ two few)))))
 
   pub return_nothing-right : inside.function ≡ true → MakesRight (λ made. stands_as made inside) (return_made free scopes None)
   unfolding return_made
-  return_nothing-right may = right _ (st.Return None) (is.stands_as-Return None inside ∙ and_from _ _ may refl)
+  return_nothing-right may = right _ (st.Return None) ((λ i. is.fold_kind-Return stmt_forms None i inside) ∙ and_from _ _ may refl)
 
   pub return-right : (value : BareExpr) → inside.function ≡ true → ExprRight value → MakesRight (λ made. stands_as made inside) (return_made free scopes (Some value))
   unfolding return_made
-  return-right value may so = bind-makes RightCode (so.expr free scopes) (λ made one. right _ (st.Return (Some made)) (is.stands_as-Return (Some made) inside ∙ and_from _ _ may one))
+  return-right value may so = bind-makes RightCode (so.expr free scopes) (λ made one. right _ (st.Return (Some made)) ((λ i. is.fold_kind-Return stmt_forms (Some made) i inside) ∙ and_from _ _ may one))
 
   pub assign-right : (to value : BareExpr) → is_target to ≡ true → ExprRight to → ExprRight value → MakesRight (λ made. stands_as made inside) (assign_made free scopes to value)
   unfolding assign_made
   assign-right to value are so also =
       bind-makes RightCode (so.target are free scopes) (λ made_to one.
       bind-makes RightCode (also.expr free scopes) (λ made two.
-      right _ (st.Assign made_to made) (is.stands_as-Assign made_to made inside ∙ and_from _ _ one two)))
+      right _ (st.Assign made_to made) ((λ i. is.fold_kind-Assign stmt_forms made_to made i inside) ∙ and_from _ _ one two)))
 
   pub augment-right : (place : BareExpr) (op : BinOp) (value : BareExpr) → grammar.is_place place ≡ true → ExprRight place → ExprRight value → MakesRight (λ made. stands_as made inside) (augment_made free scopes place op value)
   unfolding augment_made
   augment-right place op value is_one so also =
       bind-makes RightCode (makes-both RightCode (so.place is_one free scopes) (so.expr free scopes)) (λ made_place one.
       bind-makes RightCode (also.expr free scopes) (λ made two.
-      right _ (st.Augment made_place op made) (is.stands_as-Augment made_place op made inside ∙ and_from _ _ one.0 (and_from _ _ one.1 two))))
+      right _ (st.Augment made_place op made) ((λ i. is.fold_kind-Augment stmt_forms made_place op made i inside) ∙ and_from _ _ one.0 (and_from _ _ one.1 two))))
 
   pub value-right : (value : BareExpr) → ExprRight value → MakesRight (λ made. stands_as made inside) (value_made free scopes value)
   unfolding value_made
-  value-right value so = bind-makes RightCode (so.expr free scopes) (λ made one. right _ (st.Value made) (is.stands_as-Value made inside ∙ one))
+  value-right value so = bind-makes RightCode (so.expr free scopes) (λ made one. right _ (st.Value made) ((λ i. is.fold_kind-Value stmt_forms made i inside) ∙ one))
 
   pub def-right : (name : BareName) (params : List BareParam) (body : List BareStmt) (line : ℕ) → grammar.are_params params ≡ true → All ParamRight params → All (StmtRight in_function) body → MakesRight (λ made. stands_as made inside) (def_made free scopes name params (map stmt_meaning body) line)
   unfolding def_made
@@ -109,11 +110,11 @@ module _ (free : Names) (scopes : List Names) (inside : Inside) where
       bind-makes RightCode (body-right free round in_function body some) (λ made many.
       pure-makes RightCode (made_params, made) (few, many))))
       (λ made both. and_from _ _ both.0.order (and_from _ _ both.0.defaults both.1))
-      (λ place. is.stands_as-Def place to inside)
+      (λ place. (λ i. is.fold_kind-Def stmt_forms place to i inside))
 
 stmt-right : (inside : Inside) (kind : KindMeaning) (line : ℕ) (free : Names) (scopes : List Names) → KindForm inside kind → MakesRight (λ made. stands made inside) (stmt_made kind line free scopes)
 unfolding stmt_made
-stmt-right inside kind line free scopes so = bind-makes RightCode (so.kind line free scopes) (λ made one. right _ (roll-Stmt (record { line = line; kind = made })) (is.stands-roll line made inside ∙ one))
+stmt-right inside kind line free scopes so = bind-makes RightCode (so.kind line free scopes) (λ made one. right _ (roll-Stmt (record { line = line; kind = made })) ((λ i. is.fold_stmt-roll stmt_forms line made i inside) ∙ one))
 
 -- a statement on its line may stand where what it says may stand
 pub on_line-right : (line : ℕ) (inside : Inside) (kind : BareStmtKind) (meant : KindMeaning) → kind_meaning kind ≡ meant → KindForm inside meant → StmtRight inside (on_line line kind)

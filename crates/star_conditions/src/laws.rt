@@ -1,22 +1,28 @@
 //! What every resolved file meets.
 ghost use Rattle.std.specs.Prelude.{◌≡◌, ℕ, true, List, Ok};
-ghost use Rattle.star_conditions.specs.Counted.{StandsThere, VariablesAreCounted, variable_counted};
-ghost use Rattle.star_conditions.specs.Nesting.{NestedWithin};
-ghost use Rattle.star_conditions.specs.Orders.{HasNoRefusedForm};
-ghost use Rattle.star_conditions.specs.Places.{PlacesAreThere};
-ghost use Rattle.star_conditions.specs.WellFormed.{WellFormed};
+ghost use Rattle.star_trees.specs.Counted.{StandsThere, VariablesAreCounted, variable_counted};
+ghost use Rattle.star_trees.specs.Mentions.{FunctionsAreMentioned};
+ghost use Rattle.star_trees.specs.Nesting.{NestedWithin};
+ghost use Rattle.star_trees.specs.Orders.{HasNoRefusedForm};
+ghost use Rattle.star_trees.specs.Indexes.{IndexesAreThere};
+ghost use Rattle.star_trees.specs.WellFormed.{WellFormed};
 ghost use Rattle.star_trees.specs.declared.files.File.{File};
 ghost use Rattle.star_trees.specs.declared.trees.Var.{Var};
 ghost use Rattle.star_grammar.specs.declared.bare_statements.BareFile.{BareFile};
 ghost use Rattle.star_grammar.specs.declared.bare_statements.BareStmt.{BareStmt};
 ghost use Rattle.star_grammar.specs.Texts.{Spelled};
-ghost use Rattle.star_names.specs.Variables.{Names};
+ghost use Rattle.star_trees.specs.Variables.{Names};
 ghost use Rattle.star_scopes.specs.declared.dialects.Dialect.{Dialect};
 ghost use Rattle.star_scopes.specs.Files.{resolved};
 
 /// Each function and each load that a resolved file's trees speak of is one of the file's.
-pub fn places_are_there()
-    ensures { (dialect : Dialect) (body : List BareStmt) (file : File) → resolved dialect body ≡ Ok file → PlacesAreThere file }
+pub fn indexes_are_there()
+    ensures { (dialect : Dialect) (body : List BareStmt) (file : File) → resolved dialect body ≡ Ok file → IndexesAreThere file }
+{}
+
+/// The trees of a resolved file speak of each of its functions once, by a `def` or a `lambda` as the function is one.
+pub fn functions_are_mentioned()
+    ensures { (dialect : Dialect) (body : List BareStmt) (file : File) → resolved dialect body ≡ Ok file → FunctionsAreMentioned file }
 {}
 
 /// Each variable of a resolved file stands at the scope and the slot that its name has there, counted again from the file's trees.

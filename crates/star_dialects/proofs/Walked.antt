@@ -3,7 +3,7 @@ use Rattle.std.proofs.Common.{◌≡◌, ℕ, suc, ◌+◌, ◌<◌, List, [], �
 use Rattle.bz_text.specs.Answers.{Gives}
 use Rattle.bz_text.specs.declared.memory.Miss.{Miss}
 use Rattle.bz_text.specs.declared.memory.Miss.TheVariants.{OutOfMemory, Because}
-use Rattle.star_names.specs.Variables.{Names}
+use Rattle.star_trees.specs.Variables.{Names}
 use Rattle.star_dialects.specs.ExtensionFiles.{Place, all_places, followed, taken, walked}
 use Rattle.star_dialects.specs.declared.forms.Refused.{Refused}
 

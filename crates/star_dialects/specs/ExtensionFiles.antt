@@ -9,7 +9,7 @@ use Rattle.star_grammar.specs.declared.bare_statements.BareLoadName.{BareLoadNam
 use Rattle.star_grammar.specs.declared.bare_statements.BareStmt.{BareStmt, out-BareStmt}
 use Rattle.star_grammar.specs.declared.bare_statements.BareStmtKind.{out-BareStmtKind}
 use Rattle.star_grammar.specs.declared.bare_statements.BareStmtKind.TheOpen.{BareStmtKind-F}
-use Rattle.star_names.specs.Variables.{Names, place, with_binding}
+use Rattle.star_trees.specs.Variables.{Names, slot_of, with_binding}
 use Rattle.star_dialects.specs.declared.forms.Form.TheVariants as form
 use Rattle.star_dialects.specs.declared.forms.Refused.{Refused}
 use Rattle.star_dialects.specs.Forms.{StmtKindLayer, form_on}
@@ -67,7 +67,7 @@ bound (Some _) names name = Err (form_on name.line form.Rebinding)
 bound None names name = Ok (with_binding names name.name)
 
 abbrev pub taken : Names → Place → Result Names Refused
-taken names (binds name) = bound (place names name.name) names name
+taken names (binds name) = bound (slot_of names name.name) names name
 taken names (stands refused) = Err refused
 
 abbrev pub followed : Result Names Refused → (Names → Result Names Refused) → Result Names Refused

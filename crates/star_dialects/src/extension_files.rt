@@ -81,7 +81,7 @@ fn refused(line: u64, form: Form) -> May<Names, Refused>
 fn with_name(alloc: Global, name: &Txt, line: u64, names: Names) -> May<Names, Refused>
     ensures { Gives (spec.walked names (spec.binding name.now line ∷ [])) result }
 {
-    match names.place(name.as_str()) {
+    match names.slot_of(name.as_str()) {
         Some(_) => refused(line, Form::Rebinding),
         None => Ok(names.with(alloc, name)?),
     }

@@ -1,6 +1,6 @@
 -- Tests of items, one by one.
 use Rattle.std.proofs.Common.{◌≡◌, ℕ, suc, ◌+◌, ◌<◌, Bool, true, false, ◌&&◌, List, [], ◌∷◌, length, get_or, drop, map, refl, ap, sym, ◌∙◌, add-one, drop-cons, arith}
-use Rattle.star_grammar.specs.Orders.{all_of, some_and_all}
+use Rattle.star_trees.specs.Lists.{all_of, some_and_all}
 
 pub all_of-drop : {A : Type 0} (test : A → Bool) (xs : List A) (i : ℕ) (x : A) → i < length xs → x ≡ get_or xs i x → all_of (map test (drop i xs)) ≡ (test x && all_of (map test (drop (i + 1) xs)))
 all_of-drop test xs i x below is =

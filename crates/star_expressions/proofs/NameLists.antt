@@ -4,7 +4,7 @@ use Rattle.std.specs.List.{list_any}
 use Rattle.std.specs.BTreeSet.{BTreeSet, contains_text}
 use Rattle.std.specs.Prelude.{String}
 use Rattle.std.specs.declared.alloc.Global.{Global}
-use Rattle.star_grammar.specs.Orders.{all_new, with_name}
+use Rattle.star_trees.specs.Lists.{all_new, with_name}
 use Rattle.star_expressions.specs.NameSets.{Holds, Adds}
 
 cond-or : (b c : Bool) → cond b true c ≡ (b || c)

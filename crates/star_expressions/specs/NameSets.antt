@@ -3,7 +3,7 @@ use Rattle.std.specs.Prelude.{◌≡◌, ℕ, Bool, true, false, List, Option, b
 use Rattle.std.specs.List.{list_any}
 use Rattle.std.specs.BTreeSet.{BTreeSet, contains_text}
 use Rattle.std.specs.declared.alloc.Global.{Global}
-use Rattle.star_grammar.specs.Orders.{all_new, with_name}
+use Rattle.star_trees.specs.Lists.{all_new, with_name}
 
 -- the set has these names and no others
 abbrev pub Holds : BTreeSet (String Global) → List (List ℕ) → Type 0

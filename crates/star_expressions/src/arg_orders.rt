@@ -2,6 +2,7 @@
 ghost use Rattle.std.specs.Prelude.{◌≡◌, ◌==◌, ◌&&◌, IfOk, Some, None, if◌then◌else◌, nat_le};
 ghost use Rattle.std.specs.Option.{option_copied};
 ghost use Rattle.star_grammar.specs.Orders as spec;
+ghost use Rattle.star_trees.specs.Lists as lists;
 ghost use Rattle.star_grammar.specs.declared.bare_expressions.BareArg.{out-BareArg};
 ghost use Rattle.star_grammar.specs.declared.bare_expressions.BareParam.{out-BareParam};
 ghost use Rattle.star_expressions.specs.NameSets.{Adds};
@@ -52,7 +53,7 @@ fn arg_name(arg: &BareArg) -> Option<&Txt>
 }
 
 fn may_follow(last: usize, next: usize) -> bool
-    ensures { result ≡ spec.may_follow last next }
+    ensures { result ≡ lists.may_follow last next }
 {
     last < next || (last == next && next <= 1)
 }
@@ -74,7 +75,7 @@ fn args_in_order(args: &[BareArg]) -> bool
 }
 
 fn args_differ(alloc: Global, args: &[BareArg]) -> Mem<bool>
-    ensures { IfOk result (λ differ. differ ≡ spec.all_different (spec.arg_names args.now)) }
+    ensures { IfOk result (λ differ. differ ≡ lists.all_different (spec.arg_names args.now)) }
 {
     let mut names = BTreeSet::new(alloc);
     let mut rest = args;
@@ -177,7 +178,7 @@ fn params_in_order(params: &[BareParam]) -> bool
 }
 
 fn params_differ(alloc: Global, params: &[BareParam]) -> Mem<bool>
-    ensures { IfOk result (λ differ. differ ≡ spec.all_different (spec.param_names params.now)) }
+    ensures { IfOk result (λ differ. differ ≡ lists.all_different (spec.param_names params.now)) }
 {
     let mut names = BTreeSet::new(alloc);
     let mut rest = params;

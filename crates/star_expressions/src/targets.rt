@@ -1,6 +1,7 @@
 //! Targets and places.
 ghost use Rattle.std.specs.Prelude.{◌≡◌, map};
 ghost use Rattle.star_grammar.specs.Orders as spec;
+ghost use Rattle.star_trees.specs.Lists as lists;
 
 use star_grammar::BareExpr;
 
@@ -22,7 +23,7 @@ pub fn is_target(expression: &BareExpr) -> bool
 #[cycle(targets)]
 #[tactic(auto, using(crate::proofs::ItemTests::item_tests))]
 fn are_targets(targets: &[BareExpr]) -> bool
-    ensures { result ≡ spec.some_and_all (map spec.is_target targets.now) }
+    ensures { result ≡ lists.some_and_all (map spec.is_target targets.now) }
 {
     if targets.len() == 0 {
         return false;

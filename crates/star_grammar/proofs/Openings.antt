@@ -11,7 +11,7 @@ use Rattle.star_grammar.specs.Expressions.{Tree}
 use Rattle.star_grammar.specs.Readers.{same_sign, sees}
 use Rattle.star_grammar.specs.Statements as t
 use Rattle.star_grammar.specs.Statements.{Statements}
-use Rattle.star_grammar.specs.declared.bare_statements.Inside.{Inside}
+use Rattle.star_trees.specs.declared.inside.Inside.{Inside}
 use Rattle.star_grammar.specs.declared.bare_statements.Part.{Part}
 use Rattle.star_grammar.specs.declared.bare_statements.Part.TheVariants as part
 use Rattle.star_grammar.proofs.Fronts.{class, prefix-class, negation-class}

@@ -11,9 +11,10 @@ use Rattle.star_grammar.specs.Expressions as g
 use Rattle.star_grammar.specs.Expressions.{Tree}
 use Rattle.star_grammar.specs.Statements as t
 use Rattle.star_grammar.specs.Statements.{Statements}
-use Rattle.star_grammar.specs.declared.bare_statements.Inside.{Inside}
+use Rattle.star_trees.specs.declared.inside.Inside.{Inside}
 use Rattle.star_grammar.specs.declared.bare_statements.Part.{Part}
 use Rattle.star_grammar.specs.declared.bare_statements.Part.TheVariants as part
+use Rattle.star_trees.specs.Surroundings.{in_branch, in_function, in_loop}
 
 abbrev pub Shrinks : {A : Type 0} → Rule A → Type 0
 Shrinks {A} rule = (i : List Symbol) (a : A) (r : List Symbol) → rule i a r → length r ≤ length i
@@ -208,15 +209,15 @@ module _ (Expressions : Level → Rule Tree) (expressions-shrinks : (what : Leve
     Otherwise-shrinks : (inside : Inside) → Shrinks (t.Otherwise Nested inside)
     Otherwise-shrinks inside i a r t.Otherwise.absent = le_refl _
     Otherwise-shrinks inside i a r (t.Otherwise.elif so) = let under = nested-takes part.Elif inside i a r so in omega arith
-    Otherwise-shrinks inside i a r (t.Otherwise.else {i = j} so) = let under = Suite-takes (t.in_branch inside) j a r so in omega arith
+    Otherwise-shrinks inside i a r (t.Otherwise.else {i = j} so) = let under = Suite-takes (in_branch inside) j a r so in omega arith
 
     Branch-takes : (first : Sign) (inside : Inside) → Takes (t.Branch first Expressions Nested inside)
-    Branch-takes first inside i a r (t.Branch.branch {i = h} {j} {k} {test} {then = chosen} {other} so also more _) = let one = expressions-shrinks level.Test h test _ so in let two = Suite-takes (t.in_branch inside) j chosen k also in let three = Otherwise-shrinks inside k other r more in omega arith
+    Branch-takes first inside i a r (t.Branch.branch {i = h} {j} {k} {test} {then = chosen} {other} so also more _) = let one = expressions-shrinks level.Test h test _ so in let two = Suite-takes (in_branch inside) j chosen k also in let three = Otherwise-shrinks inside k other r more in omega arith
 
     Statement-takes : (inside : Inside) → Takes (t.Statement Expressions Nested inside)
-    Statement-takes inside i a r (t.Statement.def {i = h} {j} {params} {body} so _ also _) = let one = Listed-takes s.RightRound (g.Param (Expressions level.Test)) (Param-shrinks (Expressions level.Test) (expressions-shrinks level.Test)) h params _ so in let two = Suite-takes t.in_function j body r also in omega arith
+    Statement-takes inside i a r (t.Statement.def {i = h} {j} {params} {body} so _ also _) = let one = Listed-takes s.RightRound (g.Param (Expressions level.Test)) (Param-shrinks (Expressions level.Test) (expressions-shrinks level.Test)) h params _ so in let two = Suite-takes in_function j body r also in omega arith
     Statement-takes inside i a r (t.Statement.branch so) = Branch-takes s.If inside i a r so
-    Statement-takes inside i a r (t.Statement.loop {i = h} {j} {k} {to} {over} {body} so also more _) = let one = Vars-shrinks (Expressions level.Primary) (expressions-shrinks level.Primary) h to _ so in let two = Whole-shrinks j over _ also in let three = Suite-takes (t.in_loop inside) k body r more in omega arith
+    Statement-takes inside i a r (t.Statement.loop {i = h} {j} {k} {to} {over} {body} so also more _) = let one = Vars-shrinks (Expressions level.Primary) (expressions-shrinks level.Primary) h to _ so in let two = Whole-shrinks j over _ also in let three = Suite-takes (in_loop inside) k body r more in omega arith
     Statement-takes inside i a r (t.Statement.simple so) = Simple-takes inside i a r so
 
     Of-takes : (what : Part) (inside : Inside) → Takes (t.Of Expressions Nested what inside)

@@ -12,7 +12,7 @@ use Rattle.star_grammar.specs.declared.bare_statements.BareLoadName.{BareLoadNam
 use Rattle.star_grammar.specs.declared.bare_statements.BareStmt.{BareStmt}
 use Rattle.star_grammar.specs.declared.bare_statements.BareStmtKind as st
 use Rattle.star_grammar.specs.declared.bare_statements.BareStmtKind.{BareStmtKind}
-use Rattle.star_grammar.specs.declared.bare_statements.Inside.{Inside}
+use Rattle.star_trees.specs.declared.inside.Inside.{Inside}
 use Rattle.star_grammar.specs.declared.bare_statements.Part.{Part}
 use Rattle.star_grammar.specs.declared.bare_statements.Part.TheVariants as part
 use Rattle.star_grammar.specs.Rules.{front_line, Rule, Deep, sign, deep, Joins, Closed}
@@ -32,6 +32,7 @@ use Rattle.star_grammar.proofs.Openings as opens
 use Rattle.star_grammar.proofs.Openings.{Opens, opening}
 use Rattle.star_grammar.proofs.Loops.{then-is, Complete, IsTurn, IsItem, item_turn, Closed-read, Nothing-read}
 use Rattle.star_grammar.proofs.ExpressionComplete.{Alone, Always, IsNested, checked-is, given-is, expression-complete, vars-complete, listed_params-complete, nested-tests, Spells-nests}
+use Rattle.star_trees.specs.Surroundings.{at_top, in_branch, in_function, in_loop}
 
 -- ---- loads
 
@@ -155,27 +156,27 @@ module _ (expressions : Level → Reader Tree) (Expressions : Level → Rule Tre
     unfolding reading.otherwise reading.last_branch same_sign
     otherwise-complete inside i a r t.Otherwise.absent stops = rw stops.0 (rw stops.1 refl)
     otherwise-complete inside i a r (t.Otherwise.elif so) stops = rw (nests.elifs inside i a r so) (nests.complete part.Elif inside i a r so stops)
-    otherwise-complete inside i a r (t.Otherwise.else {i = j} so) stops = suite-complete (t.in_branch inside) j a r so tt
+    otherwise-complete inside i a r (t.Otherwise.else {i = j} so) stops = suite-complete (in_branch inside) j a r so tt
 
     branch-complete : (inside : Inside) (l : ℕ) (i : List Symbol) (test : Tree) (m : ℕ) (j : List Symbol) (chosen : Statements) (k : List Symbol) (other : Statements) (r : List Symbol) (a : Deep BareStmt)
-        → Expressions level.Test i test (sign s.Colon m ∷ j) → t.Suite Nested (t.in_branch inside) j chosen k → t.Otherwise Nested inside k other r
+        → Expressions level.Test i test (sign s.Colon m ∷ j) → t.Suite Nested (in_branch inside) j chosen k → t.Otherwise Nested inside k other r
         → deep (t.on_line l (st.If test.0 chosen.0 other.0)) (max test.1 (max chosen.1 other.1)) ≡ Some a → Otherless r
         → reading.branch expressions nested inside l i ≡ Some ((a.0 ∷ [], a.1), r)
     unfolding reading.branch same_sign
     branch-complete inside l i test m j chosen k other r a so also more known stops =
         then-is _ (spelled.complete level.Test i test (sign s.Colon m ∷ j) so (omega arith))
-        (then-is _ (suite-complete (t.in_branch inside) j chosen k also tt) (then-is _ (otherwise-complete inside k other r more stops) (then-is _ (given-is r known) refl)))
+        (then-is _ (suite-complete (in_branch inside) j chosen k also tt) (then-is _ (otherwise-complete inside k other r more stops) (then-is _ (given-is r known) refl)))
 
     statement-complete : (inside : Inside) → Complete Otherless (reading.statement expressions nested inside) (t.Statement Expressions Nested inside)
     unfolding reading.statement reading.definition reading.defined reading.loop same_sign
     statement-complete inside i a r (t.Statement.def {i = h} {j} {k} {params} {body} so ordered also known) stops =
         then-is _ (listed_params-complete (nested-tests spelled) h params (sign s.Colon k ∷ j) so tt)
-        (checked-is _ ordered (then-is _ (suite-complete t.in_function j body r also tt) (then-is _ (given-is r known) refl)))
+        (checked-is _ ordered (then-is _ (suite-complete in_function j body r also tt) (then-is _ (given-is r known) refl)))
     statement-complete inside i a r (t.Statement.branch (t.Branch.branch {i = h} {j} {k} {l} {m} {test} {then = chosen} {other} {a = b} so also more known)) stops = branch-complete inside l h test m j chosen k other r b so also more known stops
     statement-complete inside i a r (t.Statement.loop {i = h} {j} {k} {m} {n} {to} {over} {body} so also more known) stops =
         then-is _
         (vars-complete 0 (omega arith) (expressions level.Primary) (Expressions level.Primary) (spelled.complete level.Primary) (spelled.shrinks level.Primary) h to (sign s.In m ∷ j) so (omega arith, refl))
-        (then-is _ (whole-complete j over (sign s.Colon n ∷ k) also (omega arith, refl)) (then-is _ (suite-complete (t.in_loop inside) k body r more tt) (then-is _ (given-is r known) refl)))
+        (then-is _ (whole-complete j over (sign s.Colon n ∷ k) also (omega arith, refl)) (then-is _ (suite-complete (in_loop inside) k body r more tt) (then-is _ (given-is r known) refl)))
     statement-complete inside i a r (t.Statement.simple so) stops =
         let under = opens.Simple-opens Expressions (spelled.opens level.Test) inside i a r so in
         rw (unopened s.Def 4 (omega arith) i under) (rw (unopened s.If 4 (omega arith) i under) (rw (unopened s.For 4 (omega arith) i under) (simple-complete inside i a r so tt)))
@@ -200,7 +201,7 @@ stands-complete (suc nesting) what inside i a r so stops =
 
 file_part-complete : Complete Otherless reading.file_part t.FilePart
 unfolding reading.file_part same_sign
-file_part-complete i a r (t.FilePart.statement so) stops = rw (unopened s.Newline 5 (omega arith) i (opens.Stands-opens 128 t.at_top i a r so)) (stands-complete 128 part.Statement t.at_top i a r so stops)
+file_part-complete i a r (t.FilePart.statement so) stops = rw (unopened s.Newline 5 (omega arith) i (opens.Stands-opens 128 at_top i a r so)) (stands-complete 128 part.Statement at_top i a r so stops)
 file_part-complete i a r t.FilePart.newline stops = refl
 
 opened-more : (i : List Symbol) → class i ≤ 5 → reading.has_more i ≡ true
@@ -216,12 +217,12 @@ file_turn = record { complete = complete; opens = begun; takes = takes }
 
     begun : (items : Statements) (i : List Symbol) (b : Statements) (r : List Symbol) → Joins t.FilePart items i b r → Otherless i × (reading.has_more i ≡ true)
     begun items i b r (Joins.joins {a} (t.FilePart.statement so)) =
-        let under = opens.Stands-opens 128 t.at_top i a r so in
+        let under = opens.Stands-opens 128 at_top i a r so in
         ((unopened s.Elif 5 (omega arith) i under, unopened s.Else 5 (omega arith) i under), opened-more i under)
     begun items i b r (Joins.joins t.FilePart.newline) = ((refl, refl), refl)
 
     takes : (items : Statements) → Takes (Joins t.FilePart items)
-    takes items i b r (Joins.joins {a} (t.FilePart.statement so)) = shrinks.Stands-takes 128 part.Statement t.at_top i a r so
+    takes items i b r (Joins.joins {a} (t.FilePart.statement so)) = shrinks.Stands-takes 128 part.Statement at_top i a r so
     takes items i b r (Joins.joins t.FilePart.newline) = omega arith
 
 -- the file that is spelled is read

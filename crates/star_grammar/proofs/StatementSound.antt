@@ -13,7 +13,7 @@ use Rattle.star_grammar.specs.declared.bare_expressions.Level.TheVariants as lev
 use Rattle.star_grammar.specs.declared.bare_statements.BareFile.{BareFile}
 use Rattle.star_grammar.specs.declared.bare_statements.BareStmtKind as st
 use Rattle.star_grammar.specs.declared.bare_statements.BareStmtKind.{BareStmtKind}
-use Rattle.star_grammar.specs.declared.bare_statements.Inside.{Inside}
+use Rattle.star_trees.specs.declared.inside.Inside.{Inside}
 use Rattle.star_grammar.specs.declared.bare_statements.Part.{Part}
 use Rattle.star_grammar.specs.declared.bare_statements.Part.TheVariants as part
 use Rattle.star_grammar.specs.Rules.{front_line, Rule, sign, word, Repeated, Nothing, One, Adds, Joins, After, Series, Listed}
@@ -30,6 +30,7 @@ use Rattle.star_grammar.specs.StatementReading as reading
 use Rattle.star_grammar.proofs.Steps.{then_sees-gives, Gives, Sound, by_sign, by_front, same-sign, then-gives, expect-gives, met-gives, sees-gives, then_expect-gives, given-gives, given_then-gives, checked-gives, word-gives, text-gives, rounds-gives, more-gives, closed-gives}
 use Rattle.star_grammar.proofs.Steps.Gives.{refuses, gives}
 use Rattle.star_grammar.proofs.ExpressionSound.{expression-sound, vars-sound, listed_params-sound, reads-sound}
+use Rattle.star_trees.specs.Surroundings.{at_top, in_branch, in_function, in_loop}
 
 -- ---- loads
 
@@ -130,13 +131,13 @@ module _ (expressions : Level → Reader Tree) (Expressions : Level → Rule Tre
     unfolding reading.otherwise reading.last_branch
     otherwise-sound inside i =
         cond_both (sees s.Elif i) (nested part.Elif inside i) _ (Gives (t.Otherwise Nested inside i)) (λ _. nested_elif (nested-sound part.Elif inside i))
-        (λ _. sees-gives (t.Otherwise Nested inside) s.Else (λ _. reading.last_branch expressions nested inside) (λ l j. expect-gives (λ j. t.Otherwise Nested inside (sign s.Else l ∷ j)) s.Colon _ (λ m k. last l m k (suite-sound (t.in_branch inside) k)) j) i (λ _. gives t.Otherwise.absent))
+        (λ _. sees-gives (t.Otherwise Nested inside) s.Else (λ _. reading.last_branch expressions nested inside) (λ l j. expect-gives (λ j. t.Otherwise Nested inside (sign s.Else l ∷ j)) s.Colon _ (λ m k. last l m k (suite-sound (in_branch inside) k)) j) i (λ _. gives t.Otherwise.absent))
       where
         nested_elif : {found : Option (Statements × List Symbol)} → Gives (Nested part.Elif inside i) found → Gives (t.Otherwise Nested inside i) found
         nested_elif refuses = refuses
         nested_elif (gives so) = gives (t.Otherwise.elif so)
 
-        last : (l m : ℕ) (k : List Symbol) {found : Option (Statements × List Symbol)} → Gives (t.Suite Nested (t.in_branch inside) k) found → Gives (t.Otherwise Nested inside (sign s.Else l ∷ sign s.Colon m ∷ k)) found
+        last : (l m : ℕ) (k : List Symbol) {found : Option (Statements × List Symbol)} → Gives (t.Suite Nested (in_branch inside) k) found → Gives (t.Otherwise Nested inside (sign s.Else l ∷ sign s.Colon m ∷ k)) found
         last l m k refuses = refuses
         last l m k (gives so) = gives (t.Otherwise.else so)
 
@@ -144,19 +145,19 @@ module _ (expressions : Level → Reader Tree) (Expressions : Level → Rule Tre
     unfolding reading.branch
     branch-sound first inside l i =
         then_expect-gives s.Colon _ (expressions-sound level.Test i)
-        (λ test m j so. then-gives (suite-sound (t.in_branch inside) j) (λ chosen k also. then-gives (otherwise-sound inside k) (λ other r more. given_then-gives _ r _ (λ a e. gives (t.Branch.branch so also more e)))))
+        (λ test m j so. then-gives (suite-sound (in_branch inside) j) (λ chosen k also. then-gives (otherwise-sound inside k) (λ other r more. given_then-gives _ r _ (λ a e. gives (t.Branch.branch so also more e)))))
 
     loop-sound : (inside : Inside) (l : ℕ) (i : List Symbol) → Gives (t.Statement Expressions Nested inside (sign s.For l ∷ i)) (reading.loop expressions nested inside l i)
     unfolding reading.loop
     loop-sound inside l i =
         then_expect-gives s.In _ (vars-sound (expressions level.Primary) (Expressions level.Primary) (expressions-sound level.Primary) i)
-        (λ to m j so. then_expect-gives s.Colon _ (whole-sound j) (λ over n k also. then-gives (suite-sound (t.in_loop inside) k) (λ body r more. given_then-gives _ r _ (λ a e. gives (t.Statement.loop so also more e)))))
+        (λ to m j so. then_expect-gives s.Colon _ (whole-sound j) (λ over n k also. then-gives (suite-sound (in_loop inside) k) (λ body r more. given_then-gives _ r _ (λ a e. gives (t.Statement.loop so also more e)))))
 
     defined-sound : (inside : Inside) (called : List ℕ) (named_on l : ℕ) (i : List Symbol) → Gives (t.Statement Expressions Nested inside (sign s.Def l ∷ word called named_on ∷ i)) (reading.defined expressions nested called named_on l i)
     unfolding reading.defined
     defined-sound inside called named_on l i =
         expect-gives (λ i. t.Statement Expressions Nested inside (sign s.Def l ∷ word called named_on ∷ i)) s.LeftRound _
-        (λ m j. then-gives (listed_params-sound (expressions level.Test) (Expressions level.Test) (expressions-sound level.Test) j) (λ params k all. checked-gives (are_params params.0) _ k (λ so. met-gives (Listed s.RightRound (g.Param (Expressions level.Test)) j params) s.Colon _ (λ n k all. then-gives (suite-sound t.in_function k) (λ body r more. given_then-gives _ r _ (λ a e. gives (t.Statement.def all so more e)))) k all))) i
+        (λ m j. then-gives (listed_params-sound (expressions level.Test) (Expressions level.Test) (expressions-sound level.Test) j) (λ params k all. checked-gives (are_params params.0) _ k (λ so. met-gives (Listed s.RightRound (g.Param (Expressions level.Test)) j params) s.Colon _ (λ n k all. then-gives (suite-sound in_function k) (λ body r more. given_then-gives _ r _ (λ a e. gives (t.Statement.def all so more e)))) k all))) i
 
     definition-sound : (inside : Inside) (l : ℕ) (i : List Symbol) → Gives (t.Statement Expressions Nested inside (sign s.Def l ∷ i)) (reading.definition expressions nested l i)
     unfolding reading.definition
@@ -202,9 +203,9 @@ stands-sound (suc nesting) what inside i = of-sound (reads nesting) (g.Spells ne
 
 file_part-sound : Sound reading.file_part t.FilePart
 unfolding reading.file_part
-file_part-sound i = sees-gives t.FilePart s.Newline (λ _. pure ([], 0)) (λ l j. gives t.FilePart.newline) i (λ _. widened (stands-sound 128 part.Statement t.at_top i))
+file_part-sound i = sees-gives t.FilePart s.Newline (λ _. pure ([], 0)) (λ l j. gives t.FilePart.newline) i (λ _. widened (stands-sound 128 part.Statement at_top i))
   where
-    widened : {found : Option (Statements × List Symbol)} → Gives (t.Stands 128 part.Statement t.at_top i) found → Gives (t.FilePart i) found
+    widened : {found : Option (Statements × List Symbol)} → Gives (t.Stands 128 part.Statement at_top i) found → Gives (t.FilePart i) found
     widened refuses = refuses
     widened (gives so) = gives (t.FilePart.statement so)
 

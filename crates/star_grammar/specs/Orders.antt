@@ -1,12 +1,12 @@
 -- What the grammar asks of trees besides: the order of parameters and arguments, names that differ, targets and places. The Starlark specification, "Function and method calls", "Function definitions", "Assignments".
-use Rattle.std.specs.Prelude.{ℕ, Bool, true, false, not, ◌&&◌, ◌||◌, ◌==◌, nat_lt, nat_le, if◌then◌else◌, List, [], ◌∷◌, length, Option, Some, None, bytes_eq}
-use Rattle.std.specs.List.{list_any}
+use Rattle.std.specs.Prelude.{ℕ, Bool, true, false, ◌&&◌, ◌==◌, nat_le, if◌then◌else◌, List, [], ◌∷◌, Option, Some, None}
 use Rattle.star_grammar.specs.declared.bare_expressions.BareArg.{BareArg, out-BareArg}
-use Rattle.star_grammar.specs.declared.bare_expressions.BareArg.TheOpen.{BareArg-F, BareClause-F, BareExpr-F, BareParam-F, BarePair-F}
+use Rattle.star_grammar.specs.declared.bare_expressions.BareArg.TheOpen.{BareArg-F, BareExpr-F, BareParam-F}
 use Rattle.star_grammar.specs.declared.bare_expressions.BareClause.{BareClause}
 use Rattle.star_grammar.specs.declared.bare_expressions.BareExpr.{BareExpr, fold-BareExpr, out-BareExpr}
 use Rattle.star_grammar.specs.declared.bare_expressions.BarePair.{BarePair}
 use Rattle.star_grammar.specs.declared.bare_expressions.BareParam.{BareParam, out-BareParam}
+use Rattle.star_trees.specs.Lists.{all_different, may_follow, some_and_all, with_name}
 
 -- an expression, an argument and a parameter, opened once
 abbrev pub ExprLayer : Type 0
@@ -18,20 +18,6 @@ ArgLayer = BareArg-F BareArg BareClause BareExpr BareParam BarePair
 abbrev pub ParamLayer : Type 0
 ParamLayer = BareParam-F BareArg BareClause BareExpr BareParam BarePair
 
--- each name differs from those before it
-abbrev pub all_new : List (List ℕ) → List (List ℕ) → Bool
-all_new before [] = true
-all_new before (name ∷ names) = not (list_any (λ other. bytes_eq other name) before) && all_new (name ∷ before) names
-
--- no name stands twice
-abbrev pub all_different : List (List ℕ) → Bool
-all_different names = all_new [] names
-
--- the name, if there is one, and these
-abbrev pub with_name : Option (List ℕ) → List (List ℕ) → List (List ℕ)
-with_name None names = names
-with_name (Some name) names = name ∷ names
-
 -- ---- arguments: positional, named, `*`, `**`; the last two at most once
 
 abbrev pub arg_stage : ArgLayer → ℕ
@@ -39,10 +25,6 @@ arg_stage (BareArg-F.Positional value) = 0
 arg_stage (BareArg-F.Named name value) = 1
 arg_stage (BareArg-F.Star value line) = 2
 arg_stage (BareArg-F.DoubleStar value line) = 3
-
--- an argument of the second stage may stand behind one of the first
-abbrev pub may_follow : ℕ → ℕ → Bool
-may_follow last next = nat_lt last next || (last == next && nat_le next 1)
 
 abbrev pub args_in_order : ℕ → List BareArg → Bool
 args_in_order last [] = true
@@ -94,14 +76,6 @@ unfoldable pub are_params : List BareParam → Bool
 are_params params = params_in_order (Some 0) params && all_different (param_names params)
 
 -- ---- targets and places
-
-abbrev pub all_of : List Bool → Bool
-all_of [] = true
-all_of (one ∷ more) = one && all_of more
-
-abbrev pub some_and_all : List Bool → Bool
-some_and_all [] = false
-some_and_all (one ∷ more) = one && all_of more
 
 -- a name, an index, a target in round brackets, or one or more targets as a tuple or in square brackets
 abbrev pub target_step : BareExpr-F ℕ ℕ Bool ℕ ℕ → Bool

@@ -1,7 +1,6 @@
 -- Statements and files, read: each reader for the rule of its name, with what nests as a parameter.
-use Rattle.std.specs.Prelude.{◌≡◌, ℕ, zero, suc, max, Bool, true, false, not, ◌||◌, if◌then◌else◌, List, [], ◌∷◌, length, Option, Some, None}
+use Rattle.std.specs.Prelude.{ℕ, zero, suc, max, Bool, true, false, not, ◌||◌, if◌then◌else◌, List, [], ◌∷◌, Option, Some, None}
 use Rattle.star_trees.specs.declared.trees.BinOp.{BinOp}
-use Rattle.star_grammar.specs.declared.symbols.Sign.{Sign}
 use Rattle.star_grammar.specs.declared.symbols.Sign.TheVariants as s
 use Rattle.star_grammar.specs.declared.symbols.Symbol.{Symbol}
 use Rattle.star_grammar.specs.declared.bare_expressions.Level.{Level}
@@ -11,16 +10,17 @@ use Rattle.star_grammar.specs.declared.bare_statements.BareLoadName.{BareLoadNam
 use Rattle.star_grammar.specs.declared.bare_statements.BareStmt.{BareStmt}
 use Rattle.star_grammar.specs.declared.bare_statements.BareStmtKind as st
 use Rattle.star_grammar.specs.declared.bare_statements.BareStmtKind.{BareStmtKind}
-use Rattle.star_grammar.specs.declared.bare_statements.Inside.{Inside}
+use Rattle.star_trees.specs.declared.inside.Inside.{Inside}
 use Rattle.star_grammar.specs.declared.bare_statements.Part.{Part}
 use Rattle.star_grammar.specs.declared.bare_statements.Part.TheVariants as part
 use Rattle.star_grammar.specs.Expressions.{Tree}
 use Rattle.star_grammar.specs.ExpressionReading.{expression, vars, listed_params, reads}
 use Rattle.star_grammar.specs.Operators as operators
 use Rattle.star_grammar.specs.Orders.{are_params, is_place, is_target}
-use Rattle.star_grammar.specs.Readers.{Reader, ◌>>=◌, ◌>>◌, pure, refuse, given, checked, sees, behind, sees_word, front_of, skip, eat, expect, name, text, closed, turns, one, adds, joins, more}
+use Rattle.star_grammar.specs.Readers.{Reader, ◌>>=◌, ◌>>◌, pure, refuse, given, checked, sees, behind, sees_word, front_of, skip, expect, name, text, closed, turns, one, joins, more}
 use Rattle.star_grammar.specs.Rules.{Deep, deep, front_line}
-use Rattle.star_grammar.specs.Statements.{Statements, on_line, at_top, in_branch, in_loop, in_function}
+use Rattle.star_grammar.specs.Statements.{Statements, on_line}
+use Rattle.star_trees.specs.Surroundings.{at_top, in_branch, in_loop, in_function}
 
 -- ---- loads
 

@@ -1,6 +1,5 @@
 -- The grammar of files and statements: the Starlark specification, "Statements". Each constructor is a production; what nests is read by the rules of one nesting less.
-use Rattle.std.specs.Prelude.{◌≡◌, ℕ, zero, suc, max, Bool, true, false, List, [], ◌∷◌, Option, Some, None}
-use Rattle.star_trees.specs.declared.loads.LoadName.{LoadName}
+use Rattle.std.specs.Prelude.{◌≡◌, ℕ, zero, suc, max, true, List, [], ◌∷◌, Some, None}
 use Rattle.star_trees.specs.declared.trees.BinOp.{BinOp}
 use Rattle.star_grammar.specs.declared.symbols.Sign.{Sign}
 use Rattle.star_grammar.specs.declared.symbols.Sign.TheVariants as s
@@ -13,13 +12,14 @@ use Rattle.star_grammar.specs.declared.bare_statements.BareLoadName.{BareLoadNam
 use Rattle.star_grammar.specs.declared.bare_statements.BareStmt.{BareStmt, roll-BareStmt}
 use Rattle.star_grammar.specs.declared.bare_statements.BareStmtKind as st
 use Rattle.star_grammar.specs.declared.bare_statements.BareStmtKind.{BareStmtKind}
-use Rattle.star_grammar.specs.declared.bare_statements.Inside.{Inside}
+use Rattle.star_trees.specs.declared.inside.Inside.{Inside}
 use Rattle.star_grammar.specs.declared.bare_statements.Part.{Part}
 use Rattle.star_grammar.specs.declared.bare_statements.Part.TheVariants as part
 use Rattle.star_grammar.specs.Expressions.{Tree, Expression, Vars, Param, Spells}
 use Rattle.star_grammar.specs.Operators.{augmented}
 use Rattle.star_grammar.specs.Orders.{are_params, is_place, is_target}
-use Rattle.star_grammar.specs.Rules.{Rule, sign, word, string, front_line, Deep, deep, Repeated, Nothing, One, Adds, Joins, After, Series, Closed, Listed}
+use Rattle.star_grammar.specs.Rules.{Rule, sign, word, string, front_line, Deep, deep, Repeated, Nothing, Adds, Joins, After, Series, Closed, Listed}
+use Rattle.star_trees.specs.Surroundings.{at_top, in_branch, in_function, in_loop}
 
 abbrev pub Statements : Type 0
 Statements = Deep (List BareStmt)
@@ -27,20 +27,6 @@ Statements = Deep (List BareStmt)
 -- a statement on a line
 abbrev pub on_line : ℕ → BareStmtKind → BareStmt
 on_line line kind = roll-BareStmt (record { line = line; kind = kind })
-
--- ---- where `break`, `continue`, `return` and `load` may stand
-
-abbrev pub at_top : Inside
-at_top = record { top = true; function = false; looping = false }
-
-abbrev pub in_branch : Inside → Inside
-in_branch inside = record { top = false; function = inside.function; looping = inside.looping }
-
-abbrev pub in_loop : Inside → Inside
-in_loop inside = record { top = false; function = inside.function; looping = true }
-
-abbrev pub in_function : Inside
-in_function = record { top = false; function = true; looping = false }
 
 -- ---- small statements
 

@@ -18,14 +18,6 @@ pub enum Part {
     Elif,
 }
 
-/// What stands round a statement: whether nothing does, whether a function does, and whether a loop of the same function does.
-#[derive(Clone, Copy, Debug, PartialEq, Eq)]
-pub struct Inside {
-    pub top: bool,
-    pub function: bool,
-    pub looping: bool,
-}
-
 /// `line` is that of the statement's first token.
 #[cycle(statement)]
 #[derive(Drop)]

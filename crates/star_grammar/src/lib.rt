@@ -7,5 +7,6 @@ pub mod laws;
 pub mod symbols;
 
 pub use bare_expressions::{BareArg, BareClause, BareExpr, BareName, BarePair, BareParam, Level};
-pub use bare_statements::{BareFile, BareLoadName, BareStmt, BareStmtKind, Inside, Part};
+pub use bare_statements::{BareFile, BareLoadName, BareStmt, BareStmtKind, Part};
+pub use star_trees::Inside;
 pub use symbols::{Sign, Symbol, SymbolKind};

@@ -2,7 +2,7 @@
 use Rattle.std.proofs.Common.{◌≡◌, ℕ, ◌+◌, List, [], ◌∷◌, ◌++◌, Option, Some, None, refl, ap, arith}
 use Rattle.std.proofs.lemmas.List.{reverse-append}
 use Rattle.std.specs.Prelude.{reverse}
-use Rattle.star_names.specs.Variables.{Names, found, found_here, further, place}
+use Rattle.star_trees.specs.Variables.{Names, scope_and_slot, here_or_further, further, slot_of}
 
 pub further-zero : (answer : Option (ℕ × ℕ)) → further 0 answer ≡ answer
 further-zero None = refl
@@ -12,5 +12,5 @@ pub further-further : (one other : ℕ) (answer : Option (ℕ × ℕ)) → furth
 further-further one other None = refl
 further-further one other (Some (scope, slot)) = ap (λ n. Some (n, slot)) (omega arith)
 
-pub found-last : (outer : List Names) (names : Names) (name : List ℕ) → found (reverse (outer ++ names ∷ [])) name ≡ found_here (place names name) (found (reverse outer) name)
-found-last outer names name = ap (λ scopes. found scopes name) (reverse-append outer (names ∷ []))
+pub scope_and_slot-last : (outer : List Names) (names : Names) (name : List ℕ) → scope_and_slot (reverse (outer ++ names ∷ [])) name ≡ here_or_further (slot_of names name) (scope_and_slot (reverse outer) name)
+scope_and_slot-last outer names name = ap (λ scopes. scope_and_slot scopes name) (reverse-append outer (names ∷ []))

@@ -9,7 +9,7 @@ use Rattle.std.specs.String.{string_eq}
 use Rattle.std.specs.declared.alloc.Global.{Global}
 use Rattle.indexmap.specs.IndexSet.{insert_key}
 use Rattle.star_names.specs.NameTexts.{names_of}
-use Rattle.star_names.specs.Variables.{place, with_binding}
+use Rattle.star_trees.specs.Variables.{slot_of, with_binding}
 
 prefix-names : (name : List ℕ) (texts : List (String Global)) → prefix_len (λ text. not (bytes_eq name (string_bytes text))) texts ≡ prefix_len (λ other. not (bytes_eq name other)) (names_of texts)
 prefix-names name [] = refl
@@ -19,7 +19,7 @@ length-names : (texts : List (String Global)) → length texts ≡ length (names
 length-names [] = refl
 length-names (text ∷ texts) = ap suc (length-names texts)
 
-pub position-names : (name : List ℕ) (texts : List (String Global)) → position (λ text. bytes_eq name (string_bytes text)) texts ≡ place (names_of texts) name
+pub position-names : (name : List ℕ) (texts : List (String Global)) → position (λ text. bytes_eq name (string_bytes text)) texts ≡ slot_of (names_of texts) name
 position-names name texts = λ i. cond (nat_lt (prefix-names name texts i) (length-names texts i)) (Some (prefix-names name texts i)) None
 
 any-names : (text : String Global) (texts : List (String Global)) → list_any (string_eq text) texts ≡ list_any (bytes_eq (string_bytes text)) (names_of texts)

@@ -1,6 +1,6 @@
-//! The variables of a scope, each with its place.
+//! The variables of a scope, each with its slot.
 ghost use Rattle.std.specs.Prelude.{◌≡◌, [], IfOk, length};
-ghost use Rattle.star_names.specs.Variables.{place, with_binding};
+ghost use Rattle.star_trees.specs.Variables.{slot_of, with_binding};
 
 use bz_text::{Mem, Seq, Txt};
 use indexmap::IndexSet;
@@ -15,7 +15,7 @@ pub struct Names {
 
 impl Model for Names {
     ghost use Rattle.star_names.specs.NameTexts.{names_of};
-    ghost use Rattle.star_names.specs.Variables.{Names};
+    ghost use Rattle.star_trees.specs.Variables.{Names};
 
     ghost Value = { Names };
 
@@ -48,9 +48,9 @@ impl Names {
         Ok(Names { texts })
     }
 
-    /// The place of a name.
-    pub fn place(&self, name: &str) -> Option<usize>
-        ensures { result ≡ place self.now name.now }
+    /// The slot of a name.
+    pub fn slot_of(&self, name: &str) -> Option<usize>
+        ensures { result ≡ slot_of self.now name.now }
     {
         self.texts.get_index_of(name)
     }
@@ -60,8 +60,8 @@ impl Names {
         ensures { IfOk result (λ texts. texts ≡ self.now) }
     {
         let mut texts = Vec::new(alloc);
-        'names: for place in 0..self.texts.len() {
-            let Some(name) = self.texts.get_index(place) else {
+        'names: for index in 0..self.texts.len() {
+            let Some(name) = self.texts.get_index(index) else {
                 unreachable!();
             };
             texts.push(Txt::of(alloc, name.as_str())?)?;

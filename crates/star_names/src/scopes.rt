@@ -1,6 +1,6 @@
 //! The scopes that stand round a place of a file.
 ghost use Rattle.std.specs.Prelude.{◌≡◌, [], ◌∷◌, IfOk, length};
-ghost use Rattle.star_names.specs.Variables.{found, innermost, outer};
+ghost use Rattle.star_trees.specs.Variables.{scope_and_slot, innermost, outer};
 
 use crate::names::Names;
 use bz_text::Mem;
@@ -15,7 +15,7 @@ pub struct Scopes {
 
 impl Model for Scopes {
     ghost use Rattle.std.specs.Prelude.{List, reverse};
-    ghost use Rattle.star_names.specs.Variables.{Names};
+    ghost use Rattle.star_trees.specs.Variables.{Names};
 
     ghost Value = { List Names };
 
@@ -54,44 +54,17 @@ impl Scopes {
         self.stack.pop()
     }
 
-    /// The innermost scope that binds a name, counted outwards from 0, and the name's place there.
+    /// The innermost scope that binds a name, counted outwards from 0, and the name's slot there.
     pub fn find(&self, name: &str) -> Option<(usize, usize)>
-        ensures { result ≡ found self.now name.now }
+        ensures { result ≡ scope_and_slot self.now name.now }
     {
         let mut rest = self.stack.as_slice();
         'turns: while let Some((names, outer)) = rest.split_last() {
-            if let Some(slot) = names.place(name) {
+            if let Some(slot) = names.slot_of(name) {
                 return Some((self.stack.len() - rest.len(), slot));
             }
             rest = outer;
         }
         None
-    }
-}
-
-#[cfg(test)]
-mod tests {
-    use super::*;
-    use bz_text::Txt;
-    use std::test::Fail;
-
-    #[test]
-    fn the_innermost_scope_wins(rt: HostRuntime) -> Result<(), Fail> {
-        let alloc = rt.alloc();
-        let file = Names::new(alloc).with(alloc, &Txt::of(alloc, "a")?)?;
-        let file = file.with(alloc, &Txt::of(alloc, "b")?)?;
-        let file = file.with(alloc, &Txt::of(alloc, "a")?)?;
-        assert_eq!(rt; file.len(), 2);
-        let function = Names::new(alloc).with(alloc, &Txt::of(alloc, "b")?)?;
-        let mut scopes = Scopes::new(alloc);
-        scopes.enter(file)?;
-        scopes.enter(function)?;
-        assert_eq!(rt; scopes.len(), 2);
-        assert_eq!(rt; scopes.find("b"), Some((0, 0)));
-        assert_eq!(rt; scopes.find("a"), Some((1, 0)));
-        assert_eq!(rt; scopes.find("c"), None);
-        assert!(rt; scopes.leave().is_some());
-        assert_eq!(rt; scopes.find("b"), Some((0, 1)));
-        Ok(())
     }
 }

@@ -2,7 +2,7 @@
 use Rattle.std.proofs.Common.{◌≡◌, List, ℕ, Option, Some, None, Result, Ok, Err, IfOk, refl, subst}
 use Rattle.bz_text.specs.declared.memory.Miss.{Miss}
 use Rattle.star_conditions.proofs.WellFormed.{resolved-well_formed}
-use Rattle.star_conditions.specs.WellFormed.{WellFormed}
+use Rattle.star_trees.specs.WellFormed.{WellFormed}
 use Rattle.star_trees.specs.declared.files.File.{File}
 use Rattle.star_dialects.specs.declared.forms.Refused.{Refused}
 use Rattle.star_parse.specs.Parses.{Parses, first_form, named, unless_refused}

@@ -1,7 +1,7 @@
 //! Files of the two dialects: the tree that a text spells, then the forms that its dialect refuses, then its names.
 ghost use Rattle.std.specs.Prelude.{◌≡◌, IfOk};
 ghost use Rattle.bz_text.specs.Answers.{Gives};
-ghost use Rattle.star_conditions.specs.WellFormed.{WellFormed};
+ghost use Rattle.star_trees.specs.WellFormed.{WellFormed};
 ghost use Rattle.star_grammar.specs.Texts.{Spelled};
 ghost use Rattle.star_parse.specs.Parses.{Parses, first_form, meant, named};
 ghost use Rattle.star_scopes.specs.Files.{resolved};

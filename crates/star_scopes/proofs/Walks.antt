@@ -1,17 +1,11 @@
 -- Lists, walked item by item.
-use Rattle.std.proofs.Common.{◌≡◌, ℕ, suc, ◌+◌, ◌<◌, List, [], ◌∷◌, ◌++◌, length, get_or, drop, map, ap, sym, ◌∙◌, add-one, drop-cons}
+use Rattle.std.proofs.Common.{◌≡◌, ℕ, ◌+◌, ◌<◌, List, [], ◌∷◌, ◌++◌, length, get_or, drop, map, ap, sym, ◌∙◌}
 use Rattle.std.proofs.lemmas.List.{append_assoc}
-use Rattle.star_names.specs.Variables.{Names}
-use Rattle.star_scopes.specs.Bindings.{Binding, each_binds}
+use Rattle.bz_text.proofs.ListWalks.{drop-next}
+use Rattle.star_trees.specs.Variables.{Names, Binding, each_binds}
 use Rattle.star_scopes.specs.Making.{Making, each, prepended}
 use Rattle.star_scopes.specs.declared.lists.Lists.{Lists}
 use Rattle.star_scopes.specs.Uses.{Uses, each_uses, then_uses}
-
--- one more item of those that are left
-drop-next : {A : Type 0} (xs : List A) (i : ℕ) (x : A) → i < length xs → x ≡ get_or xs i x → drop i xs ≡ x ∷ drop (i + 1) xs
-drop-next xs i x below is =
-    let next : drop i xs ≡ get_or xs i x ∷ drop (suc i) xs = drop-cons xs i x below in
-    next ∙ (λ k. sym is k ∷ drop (sym (add-one i) k) xs)
 
 pub each_binds-drop : {A B : Type 0} (binds : B → Binding) (means : A → B) (xs : List A) (i : ℕ) (x : A) (names : Names) → i < length xs → x ≡ get_or xs i x
     → each_binds (map binds (map means (drop i xs))) names ≡ each_binds (map binds (map means (drop (i + 1) xs))) (binds (means x) names)

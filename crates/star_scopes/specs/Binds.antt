@@ -1,7 +1,7 @@
 -- What targets, parameters and clauses bind.
 use Rattle.std.specs.Prelude.{map}
 use Rattle.star_grammar.specs.declared.bare_expressions.BareArg.TheOpen.{BareClause-F, BareExpr-F, BareParam-F}
-use Rattle.star_scopes.specs.Bindings.{Binding, no_binding, each_binds, name_binds}
+use Rattle.star_trees.specs.Variables.{Binding, no_binding, each_binds, name_binds}
 use Rattle.star_scopes.specs.Meanings.{ArgMeaning, ClauseMeaning, ExprMeaning, PairMeaning, ParamMeaning}
 
 -- an expression, a parameter and a clause, opened once

@@ -16,11 +16,11 @@ use Rattle.star_trees.specs.declared.trees.ExprPair.{ExprPair, roll-ExprPair}
 use Rattle.star_trees.specs.declared.trees.Target.{Target}
 use Rattle.star_trees.specs.declared.trees.Target as target_tree
 use Rattle.star_grammar.specs.declared.bare_expressions.BareArg.TheOpen.{BareArg-F, BareClause-F, BareExpr-F, BareParam-F}
-use Rattle.star_names.specs.Variables.{Names}
+use Rattle.star_trees.specs.Variables.{Names, variables}
 use Rattle.star_scopes.specs.Binds.{ClauseLayer, ExprLayer, ParamLayer}
 use Rattle.star_scopes.specs.Making.{Making, ◌>>=◌, ◌>>◌, pure, each, begin, finish}
 use Rattle.star_scopes.specs.Meanings.{ArgMeaning, ClauseMeaning, ExprMeaning, PairMeaning, ParamMeaning}
-use Rattle.star_scopes.specs.Scopes.{variable, variables}
+use Rattle.star_scopes.specs.Scopes.{variable}
 
 -- the code of a `lambda`
 abbrev pub lambda_code : List Param → Expr → ℕ → FnCode

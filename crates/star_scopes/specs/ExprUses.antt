@@ -1,11 +1,10 @@
 -- The free names that expressions use, in the order of the text: a conditional's branch stands before its test, a comprehension's item before its clauses.
 use Rattle.std.specs.Prelude.{List, [], ◌∷◌, map, Option, Some, None}
 use Rattle.star_grammar.specs.declared.bare_expressions.BareArg.TheOpen.{BareArg-F, BareClause-F, BareExpr-F, BareParam-F, BarePair-F}
-use Rattle.star_names.specs.Variables.{Names}
+use Rattle.star_trees.specs.Variables.{Names, variables}
 use Rattle.star_scopes.specs.declared.dialects.Dialect.{Dialect}
 use Rattle.star_scopes.specs.Binds.{ClauseLayer, ExprLayer, ParamLayer}
 use Rattle.star_scopes.specs.Meanings.{ArgMeaning, ClauseMeaning, ExprMeaning, PairMeaning, ParamMeaning}
-use Rattle.star_scopes.specs.Scopes.{variables}
 use Rattle.star_scopes.specs.Uses.{Uses, ◌>>◌, no_use, each_uses, name_uses}
 
 module _ (dialect : Dialect) (scopes : List Names) where

@@ -1,6 +1,6 @@
 -- What is made beside a tree: the functions of the file, each at the place that it takes where it begins, and its loads.
-use Rattle.std.specs.Prelude.{ℕ, List, [], ◌∷◌, ◌++◌, length, set, None}
-use Rattle.star_trees.specs.declared.files.FnBody.TheVariants as body
+use Rattle.std.specs.Prelude.{ℕ, List, [], ◌∷◌, ◌++◌, length, set}
+use Rattle.star_trees.specs.Functions.{unfinished_code}
 use Rattle.star_trees.specs.declared.files.FnCode.{FnCode}
 use Rattle.star_trees.specs.declared.loads.Load.{Load}
 use Rattle.star_scopes.specs.declared.lists.Lists.{Lists}
@@ -32,13 +32,9 @@ each (making ∷ more) = do
 abbrev pub prepended : {A : Type 0} → List A → List A × Lists → List A × Lists
 prepended made others = (made ++ others.0, others.1)
 
--- a function that has begun, at its place
-abbrev pub begun : FnCode
-begun = record { name = None; params = []; body = body.Block []; line = 0 }
-
 -- the next place among the functions, taken
 abbrev pub begin : Making ℕ
-begin = λ lists. (length lists.functions, record { functions = lists.functions ++ begun ∷ []; loads = lists.loads })
+begin = λ lists. (length lists.functions, record { functions = lists.functions ++ unfinished_code ∷ []; loads = lists.loads })
 
 -- a function's code, at the place that it took
 abbrev pub finish : ℕ → FnCode → Making (Unit {0})

@@ -8,9 +8,8 @@ use Rattle.star_trees.specs.declared.trees.ExprPair.{ExprPair}
 use Rattle.star_trees.specs.declared.trees.Stmt.{Stmt}
 use Rattle.star_trees.specs.declared.trees.StmtKind.{StmtKind}
 use Rattle.star_trees.specs.declared.trees.Target.{Target}
-use Rattle.star_names.specs.Variables.{Names}
+use Rattle.star_trees.specs.Variables.{Names, Binding}
 use Rattle.star_scopes.specs.declared.dialects.Dialect.{Dialect}
-use Rattle.star_scopes.specs.Bindings.{Binding}
 use Rattle.star_scopes.specs.Uses.{Uses}
 use Rattle.star_scopes.specs.Making.{Making}
 

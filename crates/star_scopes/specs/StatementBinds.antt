@@ -1,7 +1,8 @@
 -- What statements bind.
 use Rattle.std.specs.Prelude.{List, map}
 use Rattle.star_grammar.specs.declared.bare_statements.BareStmtKind.TheOpen.{BareStmtKind-F}
-use Rattle.star_scopes.specs.Bindings.{Binding, no_binding, each_binds, name_binds, loaded_binds}
+use Rattle.star_trees.specs.Variables.{Binding, no_binding, each_binds, name_binds}
+use Rattle.star_scopes.specs.Bindings.{loaded_binds}
 use Rattle.star_scopes.specs.ExprMeaning.{meaning}
 use Rattle.star_scopes.specs.Meanings.{KindMeaning, StmtMeaning}
 

@@ -13,12 +13,12 @@ use Rattle.star_grammar.specs.declared.bare_expressions.BareName.{BareName}
 use Rattle.star_grammar.specs.declared.bare_expressions.BareParam.{BareParam}
 use Rattle.star_grammar.specs.declared.bare_statements.BareLoadName.{BareLoadName}
 use Rattle.star_grammar.specs.declared.bare_statements.BareStmtKind.TheOpen.{BareStmtKind-F}
-use Rattle.star_names.specs.Variables.{Names}
+use Rattle.star_trees.specs.Variables.{Names, function_variables}
 use Rattle.star_scopes.specs.ExprMaking.{params_made}
 use Rattle.star_scopes.specs.ExprMeaning.{meaning, param_meaning}
 use Rattle.star_scopes.specs.Making.{Making, ◌>>=◌, ◌>>◌, pure, each, begin, finish, load}
 use Rattle.star_scopes.specs.Meanings.{KindMeaning, StmtMeaning}
-use Rattle.star_scopes.specs.Scopes.{function_variables, variable}
+use Rattle.star_scopes.specs.Scopes.{variable}
 
 -- the code of a `def`
 abbrev pub def_code : List ℕ → List Param → List Stmt → ℕ → FnCode

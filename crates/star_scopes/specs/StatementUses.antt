@@ -3,12 +3,11 @@ use Rattle.std.specs.Prelude.{List, ◌∷◌, map, Option, Some, None}
 use Rattle.star_grammar.specs.declared.bare_expressions.BareExpr.{BareExpr}
 use Rattle.star_grammar.specs.declared.bare_expressions.BareParam.{BareParam}
 use Rattle.star_grammar.specs.declared.bare_statements.BareStmtKind.TheOpen.{BareStmtKind-F}
-use Rattle.star_names.specs.Variables.{Names}
+use Rattle.star_trees.specs.Variables.{Names, function_variables}
 use Rattle.star_scopes.specs.declared.dialects.Dialect.{Dialect}
 use Rattle.star_scopes.specs.ExprMeaning.{meaning, param_meaning}
 use Rattle.star_scopes.specs.ExprUses.{params_use, two_use}
 use Rattle.star_scopes.specs.Meanings.{KindMeaning, StmtMeaning}
-use Rattle.star_scopes.specs.Scopes.{function_variables}
 use Rattle.star_scopes.specs.Uses.{Uses, ◌>>◌, no_use, each_uses}
 
 module _ (dialect : Dialect) (scopes : List Names) where

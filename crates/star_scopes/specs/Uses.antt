@@ -1,7 +1,7 @@
 -- Free names: those that no scope binds. Each stands once, in the order of its first use; the first that has no meaning in the dialect is unbound.
 use Rattle.std.specs.Prelude.{ℕ, List, [], ◌∷◌, Option, Some, None, Result, Ok, Err, if◌then◌else◌}
 use Rattle.star_grammar.specs.declared.bare_expressions.BareName.{BareName}
-use Rattle.star_names.specs.Variables.{Names, found, with_binding}
+use Rattle.star_trees.specs.Variables.{Names, scope_and_slot, with_binding}
 use Rattle.star_scopes.specs.declared.dialects.Dialect.{Dialect}
 use Rattle.star_scopes.specs.declared.unbound.Unbound.{Unbound}
 use Rattle.star_scopes.specs.FreeNames.{has_free}
@@ -37,4 +37,4 @@ use_found dialect name None = free_use dialect name
 
 -- the use of a name where some scopes stand round it
 unfoldable pub name_uses : BareName → Dialect → List Names → Uses
-name_uses name dialect scopes = use_found dialect name (found scopes name.name)
+name_uses name dialect scopes = use_found dialect name (scope_and_slot scopes name.name)

@@ -1,9 +1,9 @@
 //! The variables that targets, clauses, parameters and statements bind.
 ghost use Rattle.std.specs.Prelude.{◌≡◌, IfOk, map, []};
-ghost use Rattle.star_scopes.specs.Bindings.{each_binds, loaded_binds};
+ghost use Rattle.star_trees.specs.Variables.{each_binds, function_variables, variables};
+ghost use Rattle.star_scopes.specs.Bindings.{loaded_binds};
 ghost use Rattle.star_scopes.specs.ExprMeaning.{clause_meaning, meaning, param_meaning};
 ghost use Rattle.star_scopes.specs.Meanings.{ClauseMeaning, ExprMeaning, ParamMeaning, StmtMeaning};
-ghost use Rattle.star_scopes.specs.Scopes.{function_variables, variables};
 ghost use Rattle.star_scopes.specs.StatementBinds.{body_binds};
 ghost use Rattle.star_scopes.specs.StatementMeaning.{kind_meaning, stmt_meaning};
 

@@ -1,6 +1,6 @@
 //! Expressions, with each name as its variable.
 ghost use Rattle.std.specs.Prelude.{◌≡◌, ◌∷◌, IfOk, map, option_map};
-ghost use Rattle.star_names.specs.Variables.{outer};
+ghost use Rattle.star_trees.specs.Variables.{outer};
 ghost use Rattle.star_scopes.specs.ExprMaking as spec;
 ghost use Rattle.star_scopes.specs.ExprMeaning.{arg_meaning, clause_meaning, meaning, pair_meaning, param_meaning};
 ghost use Rattle.star_scopes.specs.Maker.{Keeps, Makes};
@@ -9,8 +9,8 @@ use crate::bindings::{clause_variables, param_variables};
 use crate::maker::Maker;
 use bz_text::{Mem, Seq, Txt};
 use sqlite_items::{Boxed, Items};
-use star_trees::{Arg, BinOp, Clause, Expr, ExprPair, FnBody, FnCode, Param, Target, UnOp};
 use star_grammar::{BareArg, BareClause, BareExpr, BarePair, BareParam};
+use star_trees::{Arg, BinOp, Clause, Expr, ExprPair, FnBody, FnCode, Param, Target, UnOp};
 use std::alloc::Global;
 
 impl Maker {

@@ -3,7 +3,7 @@ ghost use Rattle.std.specs.Prelude.{◌≡◌, map, OnOk, option_map};
 ghost use Rattle.bz_text.specs.Answers.{Gives};
 ghost use Rattle.star_scopes.specs.ExprMeaning.{arg_meaning, clause_meaning, meaning, pair_meaning, param_meaning};
 ghost use Rattle.star_scopes.specs.ExprUses as spec;
-ghost use Rattle.star_names.specs.Variables.{outer};
+ghost use Rattle.star_trees.specs.Variables.{outer};
 ghost use Rattle.star_scopes.specs.Meanings.{ClauseMeaning};
 ghost use Rattle.star_scopes.specs.Uses as uses;
 ghost use Rattle.star_scopes.specs.Uses.{each_uses};

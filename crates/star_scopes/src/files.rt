@@ -10,9 +10,9 @@ use crate::maker::Maker;
 use crate::statement_uses::free_names;
 use crate::unbound::Unbound;
 use bz_text::{May, Mem};
-use star_trees::File;
 use star_grammar::BareStmt;
 use star_names::{Names, Scopes};
+use star_trees::File;
 use std::alloc::Global;
 
 /// A file whose free names are these.

@@ -2,6 +2,7 @@
 ghost use Rattle.std.specs.Prelude.{◌≡◌, ◌++◌, ◌∷◌, [], IfOk};
 ghost use Rattle.star_scopes.specs.Files.{no_lists};
 ghost use Rattle.star_scopes.specs.Making as making;
+ghost use Rattle.star_trees.specs.Functions as functions;
 
 use crate::numbers::number;
 use bz_text::{Mem, OutOfMemory, Seq};
@@ -32,7 +33,7 @@ impl Lists {
         ensures { IfOk result (λ place. making.begin self.old ≡ (place, self.new)) }
     {
         let place = number(self.functions.items().len())?;
-        push(&mut self.functions, begun(alloc))?;
+        push(&mut self.functions, unfinished_code(alloc))?;
         Ok(place)
     }
 
@@ -69,9 +70,9 @@ fn push<T: Drop>(items: &mut Seq<T>, item: T) -> Mem<()>
     }
 }
 
-/// A function that has begun.
-fn begun(alloc: Global) -> FnCode
-    ensures { result ≡ making.begun }
+/// The code of a function whose body is still to be made.
+fn unfinished_code(alloc: Global) -> FnCode
+    ensures { result ≡ functions.unfinished_code }
 {
     FnCode {
         name: None,

@@ -5,8 +5,8 @@ ghost use Rattle.star_scopes.specs.Scopes as spec;
 use crate::lists::Lists;
 use crate::variables::variable;
 use bz_text::{Mem, Txt};
-use star_trees::Var;
 use star_names::{Names, Scopes};
+use star_trees::Var;
 use std::alloc::Global;
 
 /// The file's free names, the scopes round the place that is reached, and the functions and loads so far.

@@ -9,8 +9,8 @@ use crate::bindings::function_variables;
 use crate::maker::Maker;
 use bz_text::{Mem, Seq, Txt};
 use sqlite_items::Items;
-use star_trees::{BinOp, FnBody, FnCode, Load, LoadName, Param, Stmt, StmtKind};
 use star_grammar::{BareExpr, BareLoadName, BareName, BareParam, BareStmt, BareStmtKind};
+use star_trees::{BinOp, FnBody, FnCode, Load, LoadName, Param, Stmt, StmtKind};
 use std::alloc::Global;
 
 impl Maker {

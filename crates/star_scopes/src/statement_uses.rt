@@ -1,7 +1,7 @@
 //! The free names that statements use, in the order of the text.
 ghost use Rattle.std.specs.Prelude.{◌≡◌, map, OnOk};
 ghost use Rattle.bz_text.specs.Answers.{Gives};
-ghost use Rattle.star_names.specs.Variables.{Names};
+ghost use Rattle.star_trees.specs.Variables.{Names};
 ghost use Rattle.star_scopes.specs.ExprMeaning.{meaning};
 ghost use Rattle.star_scopes.specs.Files.{file_scopes, free_names};
 ghost use Rattle.star_scopes.specs.StatementMeaning.{kind_meaning, stmt_meaning};

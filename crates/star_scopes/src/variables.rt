@@ -1,19 +1,19 @@
 //! Names as variables.
 ghost use Rattle.std.specs.Prelude.{◌≡◌, IfOk, length};
-ghost use Rattle.star_names.specs.Variables.{place};
+ghost use Rattle.star_trees.specs.Variables.{slot_of};
 ghost use Rattle.star_scopes.specs.Scopes as spec;
 
 use crate::numbers::number;
 use bz_text::{Mem, Txt};
-use star_trees::Var;
 use star_names::{Names, Scopes};
+use star_trees::Var;
 use std::alloc::Global;
 
-/// The place of a free name.
+/// The slot of a free name.
 fn free_slot(free: &Names, name: &str) -> usize
-    ensures { result ≡ spec.slot_or (place free.now name.now) (length free.now) }
+    ensures { result ≡ spec.slot_or (slot_of free.now name.now) (length free.now) }
 {
-    match free.place(name) {
+    match free.slot_of(name) {
         Some(slot) => slot,
         None => free.len(),
     }

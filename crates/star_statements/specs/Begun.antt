@@ -6,7 +6,7 @@ use Rattle.star_grammar.specs.declared.bare_expressions.Level.{Level}
 use Rattle.star_grammar.specs.declared.bare_expressions.Level.TheVariants as level
 use Rattle.star_grammar.specs.declared.bare_statements.BareStmt.{BareStmt}
 use Rattle.star_grammar.specs.declared.bare_statements.BareStmtKind as st
-use Rattle.star_grammar.specs.declared.bare_statements.Inside.{Inside}
+use Rattle.star_trees.specs.declared.inside.Inside.{Inside}
 use Rattle.star_grammar.specs.declared.bare_statements.Part.{Part}
 use Rattle.star_grammar.specs.declared.symbols.Sign.TheVariants as s
 use Rattle.star_grammar.specs.Expressions.{Tree}
@@ -15,7 +15,8 @@ use Rattle.star_grammar.specs.Operators.{augmented}
 use Rattle.star_grammar.specs.Readers.{Reader, ◌>>=◌, ◌>>◌, expect, front_of, given, one, pure, sees, skip}
 use Rattle.star_grammar.specs.Rules.{Deep, deep}
 use Rattle.star_grammar.specs.StatementReading as spec
-use Rattle.star_grammar.specs.Statements.{Statements, in_function, in_loop, on_line}
+use Rattle.star_grammar.specs.Statements.{Statements, on_line}
+use Rattle.star_trees.specs.Surroundings.{in_function, in_loop}
 
 -- an assignment, an augmented one, or the expression alone
 abbrev pub begun : (Level → Reader Tree) → ℕ → Tree → Reader (Deep BareStmt)

@@ -4,7 +4,7 @@ use Rattle.std.specs.declared.alloc.Global.{Global}
 use denote.Ref.{MutBor}
 use Rattle.bz_text.specs.declared.memory.Miss.{Miss}
 use Rattle.star_grammar.specs.declared.bare_statements.BareStmt.{BareStmt}
-use Rattle.star_grammar.specs.declared.bare_statements.Inside.{Inside}
+use Rattle.star_trees.specs.declared.inside.Inside.{Inside}
 use Rattle.star_grammar.specs.declared.bare_statements.Part.{Part}
 use Rattle.star_grammar.specs.StatementReading.{stands}
 use Rattle.star_expressions.specs.declared.cursor.Cursor.{Cursor}

@@ -3,7 +3,7 @@ ghost use Rattle.std.specs.Prelude.{◌≡◌, [], Option};
 ghost use Rattle.star_grammar.specs.Readers.{joins, turns};
 ghost use Rattle.star_grammar.specs.StatementReading as spec;
 ghost use Rattle.star_grammar.specs.StatementReading.{stands};
-ghost use Rattle.star_grammar.specs.Statements.{at_top};
+ghost use Rattle.star_trees.specs.Surroundings.{at_top};
 ghost use Rattle.star_expressions.specs.Reads.{Finds, Reads};
 
 use crate::suites::Suites;

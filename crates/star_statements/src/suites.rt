@@ -4,7 +4,7 @@ ghost use Rattle.star_grammar.specs.ExpressionReading.{reads};
 ghost use Rattle.star_grammar.specs.Readers.{joins, sees, turns};
 ghost use Rattle.star_grammar.specs.StatementReading as spec;
 ghost use Rattle.star_grammar.specs.StatementReading.{stands};
-ghost use Rattle.star_grammar.specs.Statements.{in_branch, in_function, in_loop};
+ghost use Rattle.star_trees.specs.Surroundings.{in_branch, in_function, in_loop};
 ghost use Rattle.star_grammar.specs.declared.bare_statements.Part.TheVariants as part;
 ghost use Rattle.star_grammar.specs.declared.symbols.Sign.TheVariants as s;
 ghost use Rattle.star_grammar.specs.Rules.{deep};

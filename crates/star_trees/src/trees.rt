@@ -2,7 +2,7 @@
 use bz_text::Txt;
 use sqlite_items::{Boxed, Items};
 
-/// A variable. `scope` counts scopes outwards from the one in which the name stands, then the file's, then that of the free names; `slot` is its place there.
+/// A variable. `scope` counts scopes outwards from the one in which the name stands, then the file's, then that of the free names; `slot` is its index there.
 #[derive(Debug, Drop)]
 pub struct Var {
     pub name: Txt,
@@ -52,7 +52,7 @@ pub struct Stmt {
 #[cycle(statement)]
 #[derive(Drop)]
 pub enum StmtKind {
-    /// `function` is a place in the file's functions.
+    /// `function` is an index into the file's functions.
     Def {
         function: u32,
         to: Var,
@@ -71,7 +71,7 @@ pub enum StmtKind {
     Break,
     Continue,
     Pass,
-    /// A place in the file's loads.
+    /// An index into the file's loads.
     Load(u32),
     Assign {
         to: Target,
@@ -125,7 +125,7 @@ pub enum Expr {
         then: Boxed<Expr>,
         other: Boxed<Expr>,
     },
-    /// A place in the file's functions.
+    /// An index into the file's functions.
     Lambda(u32),
     Attr {
         of: Boxed<Expr>,

@@ -1,6 +1,7 @@
 use Rattle.std.proofs.Common.{◌≡◌, ◌∷◌, List, ℕ, Some, ap, sym, ◌∙◌}
 use Rattle.star_grammar.specs.declared.bare_expressions.BareArg.{BareArg, out-BareArg}
-use Rattle.star_grammar.specs.Orders.{all_different, arg_name, arg_names, with_name}
+use Rattle.star_trees.specs.Lists.{all_different, with_name}
+use Rattle.star_grammar.specs.Orders.{arg_name, arg_names}
 use Rattle.std.specs.Option.{option_copied}
 use Rattle.star_expressions.proofs.NameLists.{Held-added, Held-known}
 use Rattle.star_expressions.proofs.arg_orders.args_differ.Goals as goal

@@ -1,6 +1,7 @@
 use Rattle.std.proofs.Common.{◌≡◌, ◌∷◌, List, ℕ, Some, ap, sym, ◌∙◌}
 use Rattle.star_grammar.specs.declared.bare_expressions.BareParam.{BareParam, out-BareParam}
-use Rattle.star_grammar.specs.Orders.{all_different, param_name, param_names, with_name}
+use Rattle.star_trees.specs.Lists.{all_different, with_name}
+use Rattle.star_grammar.specs.Orders.{param_name, param_names}
 use Rattle.std.specs.Option.{option_copied}
 use Rattle.star_expressions.proofs.NameLists.{Held-added, Held-known}
 use Rattle.star_expressions.proofs.arg_orders.params_differ.Goals as goal

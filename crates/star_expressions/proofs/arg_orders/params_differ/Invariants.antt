@@ -1,5 +1,6 @@
 use Rattle.std.proofs.Common.{◌≡◌, ℕ, List, length}
-use Rattle.star_grammar.specs.Orders.{all_different, all_new, param_names}
+use Rattle.star_trees.specs.Lists.{all_different, all_new}
+use Rattle.star_grammar.specs.Orders.{param_names}
 use Rattle.star_expressions.specs.NameSets.{Holds}
 use Rattle.star_expressions.proofs.arg_orders.params_differ.Given as goal
 

@@ -1,5 +1,6 @@
 use Rattle.std.proofs.Common.{◌≡◌, drop, map}
-use Rattle.star_grammar.specs.Orders.{all_of, is_target, some_and_all}
+use Rattle.star_trees.specs.Lists.{all_of, some_and_all}
+use Rattle.star_grammar.specs.Orders.{is_target}
 use Rattle.star_expressions.proofs.targets.+targets.Given as goal
 
 abbrev pub invariant-are_targets-targets : goal.invariant-are_targets-targets

@@ -1,5 +1,5 @@
 use Rattle.std.proofs.Common.{◌≡◌, drop, map}
-use Rattle.star_scopes.specs.Bindings.{each_binds}
+use Rattle.star_trees.specs.Variables.{each_binds}
 use Rattle.star_scopes.specs.ExprMeaning.{meaning}
 use Rattle.star_scopes.specs.Meanings.{ExprMeaning}
 use Rattle.star_scopes.proofs.bindings.+binding_targets.Given as goal

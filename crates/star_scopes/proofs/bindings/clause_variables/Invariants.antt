@@ -1,8 +1,7 @@
 use Rattle.std.proofs.Common.{◌≡◌, drop, map}
-use Rattle.star_scopes.specs.Bindings.{each_binds}
+use Rattle.star_trees.specs.Variables.{each_binds, variables}
 use Rattle.star_scopes.specs.ExprMeaning.{clause_meaning}
 use Rattle.star_scopes.specs.Meanings.{ClauseMeaning}
-use Rattle.star_scopes.specs.Scopes.{variables}
 use Rattle.star_scopes.proofs.bindings.clause_variables.Given as goal
 
 abbrev pub invariant-clauses : goal.invariant-clauses

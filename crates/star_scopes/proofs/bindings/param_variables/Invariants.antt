@@ -1,8 +1,7 @@
 use Rattle.std.proofs.Common.{◌≡◌, drop, map}
-use Rattle.star_scopes.specs.Bindings.{each_binds}
+use Rattle.star_trees.specs.Variables.{each_binds, variables}
 use Rattle.star_scopes.specs.ExprMeaning.{param_meaning}
 use Rattle.star_scopes.specs.Meanings.{ParamMeaning}
-use Rattle.star_scopes.specs.Scopes.{variables}
 use Rattle.star_scopes.proofs.bindings.param_variables.Given as goal
 
 abbrev pub invariant-params : goal.invariant-params

@@ -1,5 +1,6 @@
 use Rattle.std.proofs.Common.{◌≡◌, drop, map}
-use Rattle.star_scopes.specs.Bindings.{each_binds, loaded_binds}
+use Rattle.star_trees.specs.Variables.{each_binds}
+use Rattle.star_scopes.specs.Bindings.{loaded_binds}
 use Rattle.star_scopes.proofs.bindings.with_loaded.Given as goal
 
 abbrev pub invariant-names : goal.invariant-names

@@ -3,4 +3,4 @@ use Rattle.star_names.specs.NameTexts.{names_of}
 use Rattle.star_names.proofs.names.Names.texts.Given as goal
 
 abbrev pub invariant-names : goal.invariant-names
-invariant-names l = l.texts.items ≡ names_of (take l.place l.self-inside.texts.keys)
+invariant-names l = l.texts.items ≡ names_of (take l.index l.self-inside.texts.keys)

@@ -1,6 +1,6 @@
 use Rattle.std.proofs.Common.{ap, ◌∙◌}
 use Rattle.star_names.specs.NameTexts.{names_of}
-use Rattle.star_names.specs.Variables.{with_binding}
+use Rattle.star_trees.specs.Variables.{with_binding}
 use Rattle.star_names.proofs.TextNames.{insert-names}
 use Rattle.star_names.proofs.names.Names.with.Goals as goal
 

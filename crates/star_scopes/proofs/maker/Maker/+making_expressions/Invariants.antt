@@ -1,7 +1,7 @@
 use Rattle.std.proofs.Common.{◌≡◌, drop, map, max, ◌+◌, ◌*◌}
 use Rattle.star_grammar.specs.declared.bare_expressions.BareClause.{size-BareClause}
 use Rattle.star_grammar.specs.declared.bare_expressions.BareExpr.{size-BareExpr}
-use Rattle.star_names.specs.Variables.{outer}
+use Rattle.star_trees.specs.Variables.{outer}
 use Rattle.star_scopes.specs.ExprMaking as spec
 use Rattle.star_scopes.specs.ExprMeaning.{arg_meaning, clause_meaning, meaning, pair_meaning, param_meaning}
 use Rattle.star_scopes.specs.Making.{each, prepended}

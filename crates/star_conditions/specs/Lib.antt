@@ -1,5 +1,0 @@
-pub mod Counted
-pub mod Nesting
-pub mod Orders
-pub mod Places
-pub mod WellFormed

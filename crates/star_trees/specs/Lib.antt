@@ -1,0 +1,11 @@
+pub mod Counted
+pub mod Folds
+pub mod Functions
+pub mod Indexes
+pub mod Lists
+pub mod Mentions
+pub mod Nesting
+pub mod Orders
+pub mod Surroundings
+pub mod Variables
+pub mod WellFormed
