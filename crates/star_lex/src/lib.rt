@@ -7,13 +7,11 @@ pub mod laws;
 mod layout;
 mod levels;
 mod marks;
-mod pieces;
+mod lexemes;
 mod runs;
 mod scan;
 mod strings;
 pub mod token;
-#[cfg(test)]
-mod token_table;
 mod words;
 
 pub use scan::tokens;

@@ -3,7 +3,7 @@ ghost use Rattle.std.specs.Prelude.{◌≡◌, IfOk};
 ghost use Rattle.bz_text.specs.Answers.{Gives};
 ghost use Rattle.star_conditions.specs.WellFormed.{WellFormed};
 ghost use Rattle.star_grammar.specs.Texts.{Spelled};
-ghost use Rattle.star_parse.specs.Parses.{Parses, first_form, meant, named};
+ghost use Rattle.star_parse.specs.Parses.{Parses, first_form, meaning_in, file_or_unbound};
 ghost use Rattle.star_scopes.specs.Files.{resolved};
 ghost use Rattle.star_scopes.specs.declared.dialects.Dialect.TheVariants as dialect;
 
@@ -46,7 +46,7 @@ fn parsed(alloc: Global, dialect: Dialect, text: &str) -> May<File, ParseFault>
     ensures { Parses dialect text.now result }
 {
     match tree(alloc, text) {
-        Ok(tree) => told(alloc, dialect, tree.body.as_slice()),
+        Ok(tree) => file_of_tree(alloc, dialect, tree.body.as_slice()),
         Err(Miss::Because(TreeFault::Lex { hint })) => {
             Err(Miss::Because(ParseFault::Lex { hint }))
         }
@@ -58,8 +58,8 @@ fn parsed(alloc: Global, dialect: Dialect, text: &str) -> May<File, ParseFault>
 }
 
 /// What a tree is in a dialect.
-fn told(alloc: Global, dialect: Dialect, body: &[BareStmt]) -> May<File, ParseFault>
-    ensures { Gives (meant dialect body.now) result }
+fn file_of_tree(alloc: Global, dialect: Dialect, body: &[BareStmt]) -> May<File, ParseFault>
+    ensures { Gives (meaning_in dialect body.now) result }
 {
     match refused(alloc, dialect, body)? {
         Some(refused) => Err(Miss::Because(ParseFault::Dialect {
@@ -82,7 +82,7 @@ fn refused(alloc: Global, dialect: Dialect, body: &[BareStmt]) -> Mem<Option<Ref
 
 /// The file with its names resolved.
 fn file(alloc: Global, dialect: Dialect, body: &[BareStmt]) -> May<File, ParseFault>
-    ensures { Gives (named (resolved dialect body.now)) result }
+    ensures { Gives (file_or_unbound (resolved dialect body.now)) result }
 {
     match resolved(alloc, dialect, body) {
         Ok(file) => Ok(file),

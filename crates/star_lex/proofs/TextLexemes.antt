@@ -1,4 +1,4 @@
--- In a text that is UTF-8, a piece ends between two characters, and a string's value is UTF-8.
+-- In a text that is UTF-8, a lexeme ends between two characters, and a string's value is UTF-8.
 use Rattle.std.proofs.Common.{◌≡◌, ℕ, ◌<◌, ◌≤◌, ◌+◌, ◌-◌, inl, inr, Bool, true, false, ◌&&◌, cond, List, [], ◌∷◌, ◌++◌, length, take, drop, slice_index, Option, Some, ltb, eqb, refl, arith, sym, subst, ap, ◌∙◌, IsUtf8, append_assoc, append-nil, length-append, get_or-append-add, get_or-drop, drop-drop, drop_at, take_at}
 use Rattle.std.specs.List.{list_all, list_any}
 use Rattle.std.specs.Str.{bytes_eq}
@@ -7,20 +7,20 @@ use Rattle.std.proofs.lemmas.Bool.Decides.{nat_tests}
 use Rattle.std.proofs.lemmas.Slice.Eq.{bytes_eq-Decides}
 use Rattle.std.proofs.lemmas.Str.{IsUtf8-take, IsUtf8-drop, IsUtf8-append, IsCharBoundary-before_ascii, IsCharBoundary-after_ascii}
 use Rattle.star_lex.specs.declared.strings.Style.{Style}
-use Rattle.star_lex.specs.declared.pieces.Piece.{Piece}
+use Rattle.star_lex.specs.declared.lexemes.Lexeme.{Lexeme}
 use Rattle.star_lex.specs.declared.bytes.Class.{Class}
 use Rattle.star_lex.specs.declared.bytes.Class.TheVariants.{Space, Letter, Digit, Quote, Hash, Backslash, Feed, Other}
-use Rattle.star_lex.specs.declared.runs.Within.TheVariants.{Blank, Word, Comment}
+use Rattle.star_lex.specs.declared.runs.Within.TheVariants.{Blank, Word, RestOfLine}
 use Rattle.star_lex.specs.Bytes.{class_of, line_end}
 use Rattle.star_lex.specs.Runs.{belongs, IsRun}
 use Rattle.star_lex.specs.Marks.{single_marks, double_marks, triple_marks, is_mark}
 use Rattle.star_lex.specs.Strings.{Contents, IsString, bytes_of, closes, is_tripled, is_raw, opening, prefix, quotes, style_of}
 use Rattle.star_lex.specs.Strings.Contents.{ends, goes}
-use Rattle.star_lex.specs.Pieces.{IsLettered, IsOfClass, IsPiece}
+use Rattle.star_lex.specs.Lexemes.{IsLettered, IsOfClass, IsLexeme}
 use Rattle.star_lex.proofs.RunLengths.{each-at}
 use Rattle.star_lex.proofs.StringItems.{item-within, byte-within}
 use Rattle.star_lex.proofs.StringContents.{style_of-quote, closes-within, quotes-some, opening-some}
-use Rattle.star_lex.proofs.PieceLaws.{IsOfClass-within, raw-quote, plain-quote}
+use Rattle.star_lex.proofs.LexemeLaws.{IsOfClass-within, raw-quote, plain-quote}
 use Rattle.star_lex.proofs.TextItems.{item-reads, Feeds, line_end-feeds}
 
 -- what stands before an ASCII byte is UTF-8, and so is what stands behind one
@@ -126,7 +126,7 @@ blank-ascii b h = grind (arith, nat_tests)
 word-ascii : (b : ℕ) → belongs Word b ≡ true → b < 128
 word-ascii b h = grind (arith, nat_tests)
 
-comment-stops : (b : ℕ) → belongs Comment b ≡ false → b < 128
+comment-stops : (b : ℕ) → belongs RestOfLine b ≡ false → b < 128
 comment-stops b h = grind (arith, nat_tests)
 
 run-utf8 : (test : ℕ → Bool) (text : List ℕ) (n : ℕ) → ((b : ℕ) → test b ≡ true → b < 128) → IsUtf8 text → IsRun test text n → 0 < n → IsUtf8 (drop n text)
@@ -134,8 +134,8 @@ run-utf8 test text n ascii utf8 run some =
     let within : n ≤ length text = run.within in
     ends-ascii text n utf8 some within (ascii (slice_index text (n - 1)) (each-at test text n (n - 1) run.each (omega arith) (omega arith)))
 
-remark-utf8 : (text : List ℕ) (n : ℕ) → IsUtf8 text → IsRun (belongs Comment) text n → IsUtf8 (drop n text)
-remark-utf8 text n utf8 run =
+comment-utf8 : (text : List ℕ) (n : ℕ) → IsUtf8 text → IsRun (belongs RestOfLine) text n → IsUtf8 (drop n text)
+comment-utf8 text n utf8 run =
     let low : slice_index text n < 128 = comment-stops (slice_index text n) run.stops in
     IsUtf8-drop text n utf8 (run.within, λ inside high. absurd (omega arith))
 
@@ -170,8 +170,8 @@ feed-utf8 text n utf8 some within e =
     let last : slice_index text (n - 1) ≡ 10 = feeds.2 in
     ends-ascii text n utf8 some within (omega arith)
 
-join-utf8 : (text : List ℕ) (feed n : ℕ) → IsUtf8 text → n ≤ length text → n ≡ 1 + feed → line_end (drop 1 text) ≡ Some feed → IsUtf8 (drop n text)
-join-utf8 text feed n utf8 within whole e =
+line_continuation-utf8 : (text : List ℕ) (feed n : ℕ) → IsUtf8 text → n ≤ length text → n ≡ 1 + feed → line_end (drop 1 text) ≡ Some feed → IsUtf8 (drop n text)
+line_continuation-utf8 text feed n utf8 within whole e =
     let feeds : Feeds (drop 1 text) (Some feed) = subst (λ (o : Option ℕ). Feeds (drop 1 text) o) e (line_end-feeds (drop 1 text)) in
     let last : slice_index (drop 1 text) (feed - 1) ≡ 10 = feeds.2 in
     let some : 0 < feed = feeds.1 in
@@ -180,23 +180,23 @@ join-utf8 text feed n utf8 within whole e =
     let here : slice_index text (n - 1) ≡ slice_index text (1 + (feed - 1)) = ap (λ (i : ℕ). slice_index text i) place in
     ends-ascii text n utf8 (omega arith) within (omega arith)
 
-IsLettered-utf8 : (raw : Bool) (text : List ℕ) (piece : Piece) (n : ℕ) → is_raw text ≡ raw → IsUtf8 text → 0 < n → IsLettered raw text piece n → IsUtf8 (drop n text)
-IsLettered-utf8 true text piece n raw utf8 some one = IsString-utf8 text one.value n (raw-quote text raw).0 (raw-quote text raw).1 utf8 one.string
-IsLettered-utf8 false text piece n raw utf8 some one = run-utf8 (belongs Word) text n word-ascii utf8 one.run some
+IsLettered-utf8 : (raw : Bool) (text : List ℕ) (lexeme : Lexeme) (n : ℕ) → is_raw text ≡ raw → IsUtf8 text → 0 < n → IsLettered raw text lexeme n → IsUtf8 (drop n text)
+IsLettered-utf8 true text lexeme n raw utf8 some one = IsString-utf8 text one.value n (raw-quote text raw).0 (raw-quote text raw).1 utf8 one.string
+IsLettered-utf8 false text lexeme n raw utf8 some one = run-utf8 (belongs Word) text n word-ascii utf8 one.run some
 
-IsOfClass-utf8 : (class : Class) (text : List ℕ) (piece : Piece) (n : ℕ) → class_of (slice_index text 0) ≡ class → IsUtf8 text → 0 < n → n ≤ length text → IsOfClass class text piece n → IsUtf8 (drop n text)
-IsOfClass-utf8 Space text piece n e utf8 some within one = run-utf8 (belongs Blank) text n blank-ascii utf8 one.run some
-IsOfClass-utf8 Letter text piece n e utf8 some within one = IsLettered-utf8 (is_raw text) text piece n refl utf8 some one
-IsOfClass-utf8 Digit text piece n e utf8 some within one = run-utf8 (belongs Word) text n word-ascii utf8 one.run some
-IsOfClass-utf8 Quote text piece n e utf8 some within one = IsString-utf8 text one.value n (plain-quote text e).0 (plain-quote text e).1 utf8 one.string
-IsOfClass-utf8 Hash text piece n e utf8 some within one = remark-utf8 text n utf8 one.run
-IsOfClass-utf8 Backslash text piece n e utf8 some within one = join-utf8 text one.feed n utf8 within one.whole one.ends
-IsOfClass-utf8 Feed text piece n e utf8 some within one = feed-utf8 text n utf8 some within one.ends
-IsOfClass-utf8 Other text piece n e utf8 some within one = mark-utf8 text n utf8 some within one.mark.mark
+IsOfClass-utf8 : (class : Class) (text : List ℕ) (lexeme : Lexeme) (n : ℕ) → class_of (slice_index text 0) ≡ class → IsUtf8 text → 0 < n → n ≤ length text → IsOfClass class text lexeme n → IsUtf8 (drop n text)
+IsOfClass-utf8 Space text lexeme n e utf8 some within one = run-utf8 (belongs Blank) text n blank-ascii utf8 one.run some
+IsOfClass-utf8 Letter text lexeme n e utf8 some within one = IsLettered-utf8 (is_raw text) text lexeme n refl utf8 some one
+IsOfClass-utf8 Digit text lexeme n e utf8 some within one = run-utf8 (belongs Word) text n word-ascii utf8 one.run some
+IsOfClass-utf8 Quote text lexeme n e utf8 some within one = IsString-utf8 text one.value n (plain-quote text e).0 (plain-quote text e).1 utf8 one.string
+IsOfClass-utf8 Hash text lexeme n e utf8 some within one = comment-utf8 text n utf8 one.run
+IsOfClass-utf8 Backslash text lexeme n e utf8 some within one = line_continuation-utf8 text one.feed n utf8 within one.whole one.ends
+IsOfClass-utf8 Feed text lexeme n e utf8 some within one = feed-utf8 text n utf8 some within one.ends
+IsOfClass-utf8 Other text lexeme n e utf8 some within one = mark-utf8 text n utf8 some within one.mark.mark
 
--- what stands behind a piece is UTF-8 where the text is
-pub IsPiece-utf8 : (text : List ℕ) (piece : Piece) (n : ℕ) → IsUtf8 text → IsPiece text piece n → IsUtf8 (drop n text)
-unfolding IsPiece
-IsPiece-utf8 text piece n utf8 one =
-    let inside = IsOfClass-within (class_of (slice_index text 0)) text piece n refl one in
-    IsOfClass-utf8 (class_of (slice_index text 0)) text piece n refl utf8 inside.0 inside.1 one
+-- what stands behind a lexeme is UTF-8 where the text is
+pub IsLexeme-utf8 : (text : List ℕ) (lexeme : Lexeme) (n : ℕ) → IsUtf8 text → IsLexeme text lexeme n → IsUtf8 (drop n text)
+unfolding IsLexeme
+IsLexeme-utf8 text lexeme n utf8 one =
+    let inside = IsOfClass-within (class_of (slice_index text 0)) text lexeme n refl one in
+    IsOfClass-utf8 (class_of (slice_index text 0)) text lexeme n refl utf8 inside.0 inside.1 one

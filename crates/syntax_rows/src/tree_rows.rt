@@ -1,16 +1,16 @@
 //! Texts beside their trees, worked out by hand from the grammar.
-use crate::printer::printed;
+use crate::tree_text::tree_text;
 use bz_text::Miss;
 use star_statements::{TreeFault, tree};
 use std::alloc::{AllocError, Global};
 use std::test::Fail;
 
 /// The statements of a text, each with its line, or its fault.
-fn told(alloc: Global, text: &str) -> Result<String, AllocError> {
+fn parsed_text(alloc: Global, text: &str) -> Result<String, AllocError> {
     match tree(alloc, text) {
-        Ok(file) => printed(alloc, &file),
-        Err(Miss::Because(TreeFault::Lex { hint: _ })) => String::from_str(alloc, "lex"),
-        Err(Miss::Because(TreeFault::Syntax { hint: _ })) => String::from_str(alloc, "syntax"),
+        Ok(file) => tree_text(alloc, &file),
+        Err(Miss::Because(TreeFault::Lex { hint })) => format!(in alloc; "lex {hint}"),
+        Err(Miss::Because(TreeFault::Syntax { hint })) => format!(in alloc; "syntax {hint}"),
         Err(Miss::OutOfMemory) => String::from_str(alloc, "no memory"),
     }
 }
@@ -62,7 +62,7 @@ fn expressions_give_their_trees(rt: HostRuntime) -> Result<(), Fail> {
         ("(x,) = y", "@1 (= (tuple x) y);"),
     ];
     for (text, want) in cases {
-        let got = told(alloc, text)?;
+        let got = parsed_text(alloc, text)?;
         assert_eq!(rt; got.as_str(), want, "at {text}");
     }
     Ok(())
@@ -102,7 +102,7 @@ fn statements_give_their_trees(rt: HostRuntime) -> Result<(), Fail> {
         ),
     ];
     for (text, want) in cases {
-        let got = told(alloc, text)?;
+        let got = parsed_text(alloc, text)?;
         assert_eq!(rt; got.as_str(), want, "at {text}");
     }
     Ok(())
@@ -112,32 +112,36 @@ fn statements_give_their_trees(rt: HostRuntime) -> Result<(), Fail> {
 fn other_expressions_have_no_tree(rt: HostRuntime) -> Result<(), Fail> {
     let alloc = rt.alloc();
     let cases = [
-        "x = 1 < 2 < 3",
-        "x[1,]",
-        "f(a = 1, 2)",
-        "f(a = 1, a = 2)",
-        "f(*a, *b)",
-        "f(*a, b = 1)",
-        "f(a for a in b)",
-        "'a' 'b'",
-        "def f(a = 1, b): pass",
-        "lambda x,: x",
-        "lambda a, a: 1",
-        "a if b",
-        "(1",
-        "1)",
-        "[1 2]",
-        "{1}",
-        "{1: 2, 3}",
-        "a.1",
-        "a..b",
-        "not",
-        "a not b",
-        "x y",
+        ("x = 1 < 2 < 3", 1),
+        ("x[1,]", 1),
+        ("f(a = 1, 2)", 1),
+        ("f(a = 1, a = 2)", 1),
+        ("f(*a, *b)", 1),
+        ("f(*a, b = 1)", 1),
+        ("f(a for a in b)", 1),
+        ("'a' 'b'", 1),
+        ("def f(a = 1, b): pass", 1),
+        ("lambda x,: x", 1),
+        ("lambda a, a: 1", 1),
+        ("a if b", 1),
+        ("(1", 1),
+        ("1)", 1),
+        ("[1 2]", 1),
+        ("{1}", 1),
+        ("{1: 2, 3}", 1),
+        ("a.1", 1),
+        ("a..b", 1),
+        ("not", 1),
+        ("a not b", 1),
+        ("x y", 1),
+        ("x\ny = (1\n", 3),
+        ("f(\n1 2)", 2),
+        ("\nx = lambda", 2),
     ];
-    for text in cases {
-        let got = told(alloc, text)?;
-        assert_eq!(rt; got.as_str(), "syntax", "at {text}");
+    for (text, line) in cases {
+        let got = parsed_text(alloc, text)?;
+        let want = format!(in alloc; "syntax {line}")?;
+        assert_eq!(rt; got.as_str(), want.as_str(), "at {text}");
     }
     Ok(())
 }
@@ -146,46 +150,51 @@ fn other_expressions_have_no_tree(rt: HostRuntime) -> Result<(), Fail> {
 fn other_statements_have_no_tree(rt: HostRuntime) -> Result<(), Fail> {
     let alloc = rt.alloc();
     let cases = [
-        "x = 1,",
-        "x, = y",
-        "return",
-        "break",
-        "if a: break",
-        "for a in b:\n  def f(): break",
-        "if a: load('b', 'c')",
-        "def f(): load('b', 'c')",
-        "if = 1",
-        "(x) += 1",
-        "(x[0]) += 1",
-        "x, y += 1",
-        "x.y = 1",
-        "() = 1",
-        "[] = 1",
-        "x[1:2] = 3",
-        "for a in b,: pass",
-        "for x.y in z: pass",
-        "def f(a, a): pass",
-        "def f(**a, b): pass",
-        "def f(*a, *b): pass",
-        "if a: if b: pass",
-        "else: pass",
-        "class x: pass",
-        "x = import",
-        "  x",
-        ";",
-        "x;;y",
+        ("x = 1,", 1),
+        ("x, = y", 1),
+        ("return", 1),
+        ("break", 1),
+        ("if a: break", 1),
+        ("for a in b:\n  def f(): break", 2),
+        ("if a: load('b', 'c')", 1),
+        ("def f(): load('b', 'c')", 1),
+        ("if = 1", 1),
+        ("(x) += 1", 1),
+        ("(x[0]) += 1", 1),
+        ("x, y += 1", 1),
+        ("x.y = 1", 1),
+        ("() = 1", 1),
+        ("[] = 1", 1),
+        ("x[1:2] = 3", 1),
+        ("for a in b,: pass", 1),
+        ("for x.y in z: pass", 1),
+        ("def f(a, a): pass", 1),
+        ("def f(**a, b): pass", 1),
+        ("def f(*a, *b): pass", 1),
+        ("if a: if b: pass", 1),
+        ("else: pass", 1),
+        ("class x: pass", 1),
+        ("x = import", 1),
+        ("  x", 1),
+        (";", 1),
+        ("x;;y", 1),
+        ("if a:", 1),
+        ("x\nif a:\n", 2),
+        ("x\n\ndef f():\n\n# c\n", 3),
+        ("if a:\n  if b:\n\n", 2),
     ];
-    for text in cases {
-        let got = told(alloc, text)?;
-        assert_eq!(rt; got.as_str(), "syntax", "at {text}");
+    for (text, line) in cases {
+        let got = parsed_text(alloc, text)?;
+        let want = format!(in alloc; "syntax {line}")?;
+        assert_eq!(rt; got.as_str(), want.as_str(), "at {text}");
     }
     Ok(())
 }
 
 #[test]
 fn a_text_without_tokens_has_no_tree(rt: HostRuntime) -> Result<(), Fail> {
-    let got = told(rt.alloc(), "01")?;
-    assert_eq!(rt; got.as_str(), "lex");
+    let got = parsed_text(rt.alloc(), "x\n01")?;
+    assert_eq!(rt; got.as_str(), "lex 2");
     Ok(())
 }
 

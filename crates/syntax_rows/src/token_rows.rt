@@ -1,11 +1,10 @@
 //! Texts beside their tokens, worked out by hand from the lexis.
-use crate::scan::tokens;
-use crate::token::{Token, TokenKind};
 use bz_text::{Miss, Seq};
+use star_lex::{Token, TokenKind, tokens};
 use std::alloc::{AllocError, Global};
 use std::test::Fail;
 
-fn told_kind(alloc: Global, kind: &TokenKind) -> Result<String, AllocError> {
+fn kind_text(alloc: Global, kind: &TokenKind) -> Result<String, AllocError> {
     match kind {
         TokenKind::Identifier => String::from_str(alloc, "name"),
         TokenKind::Keyword => String::from_str(alloc, "keyword"),
@@ -22,18 +21,18 @@ fn told_kind(alloc: Global, kind: &TokenKind) -> Result<String, AllocError> {
     }
 }
 
-fn told_tokens(alloc: Global, tokens: &[Token]) -> Result<String, AllocError> {
-    let mut told = String::new(alloc);
+fn token_text(alloc: Global, tokens: &[Token]) -> Result<String, AllocError> {
+    let mut text = String::new(alloc);
     for token in tokens {
-        let kind = told_kind(alloc, &token.kind)?;
+        let kind = kind_text(alloc, &token.kind)?;
         let kind = kind.as_str();
         let begin = token.begin;
         let end = token.end;
         let line = token.line;
         let one = format!(in alloc; "{kind} {begin} {end} {line};")?;
-        told.push_str(one.as_str())?;
+        text.push_str(one.as_str())?;
     }
-    Ok(told)
+    Ok(text)
 }
 
 fn scanned(alloc: Global, text: &str) -> Option<Seq<Token>> {
@@ -44,9 +43,9 @@ fn scanned(alloc: Global, text: &str) -> Option<Seq<Token>> {
 }
 
 /// The tokens with their places, or the line of the fault.
-fn told(alloc: Global, text: &str) -> Result<String, AllocError> {
+fn lexed_text(alloc: Global, text: &str) -> Result<String, AllocError> {
     match tokens(alloc, text) {
-        Ok(tokens) => told_tokens(alloc, tokens.items()),
+        Ok(tokens) => token_text(alloc, tokens.items()),
         Err(Miss::Because(fault)) => {
             let line = fault.hint;
             Ok(format!(in alloc; "fault {line}")?)
@@ -56,10 +55,10 @@ fn told(alloc: Global, text: &str) -> Result<String, AllocError> {
 }
 
 /// What the first token is.
-fn first_told(alloc: Global, text: &str) -> Result<String, AllocError> {
+fn first_kind(alloc: Global, text: &str) -> Result<String, AllocError> {
     match scanned(alloc, text) {
         Some(tokens) => match tokens.items().first() {
-            Some(token) => told_kind(alloc, &token.kind),
+            Some(token) => kind_text(alloc, &token.kind),
             None => String::from_str(alloc, "none"),
         },
         None => String::from_str(alloc, "fault"),
@@ -114,7 +113,7 @@ fn tokens_have_kinds_and_places(rt: HostRuntime) -> Result<(), Fail> {
         ("'''a\n'''x", "'a\n' 0 8 1;name 8 9 2;newline 9 9 2;"),
     ];
     for (text, want) in cases {
-        let got = told(alloc, text)?;
+        let got = lexed_text(alloc, text)?;
         assert_eq!(rt; got.as_str(), want, "at {text}");
     }
     Ok(())
@@ -155,7 +154,7 @@ fn words_numbers_and_strings_have_values(rt: HostRuntime) -> Result<(), Fail> {
         ("R'x'", "name"),
     ];
     for (text, want) in cases {
-        let got = first_told(alloc, text)?;
+        let got = first_kind(alloc, text)?;
         assert_eq!(rt; got.as_str(), want, "at {text}");
     }
     Ok(())
@@ -207,7 +206,7 @@ fn other_texts_are_faults(rt: HostRuntime) -> Result<(), Fail> {
         ") \n\tx",
     ];
     for text in cases {
-        let got = first_told(alloc, text)?;
+        let got = first_kind(alloc, text)?;
         assert_eq!(rt; got.as_str(), "fault", "at {text}");
     }
     Ok(())

@@ -1,7 +1,7 @@
 use Rattle.std.proofs.Common.{◌≡◌, true, take, drop, None, rules}
 use Rattle.star_lex.specs.Integers.{begins_fraction, integer_of}
-use Rattle.star_lex.proofs.PieceLaws.{IsInteger-fraction, IsInteger-no_value}
-use Rattle.star_lex.proofs.pieces.integer.Goals as goal
+use Rattle.star_lex.proofs.LexemeLaws.{IsInteger-fraction, IsInteger-no_value}
+use Rattle.star_lex.proofs.lexemes.integer.Goals as goal
 
 pub returns-then-begins_fraction : goal.returns-then-begins_fraction
 returns-then-begins_fraction c =

@@ -1,18 +1,18 @@
 //! Small files beside the scopes and slots of their names, worked out by hand.
-use crate::parse::{ParseFault, parse_bzl, parse_module};
-use crate::tree_table::repeated;
-use crate::variables::variables;
+use crate::tree_rows::repeated;
+use crate::variable_text::variable_text;
 use bz_text::{May, Miss};
+use star_parse::{ParseFault, parse_bzl, parse_module};
 use star_trees::File;
 use std::alloc::{AllocError, Global};
 use std::test::Fail;
 
 /// The variables of a file, or its fault.
-fn told(alloc: Global, file: May<File, ParseFault>) -> Result<String, AllocError> {
+fn file_text(alloc: Global, file: May<File, ParseFault>) -> Result<String, AllocError> {
     match file {
-        Ok(file) => variables(alloc, &file),
-        Err(Miss::Because(ParseFault::Lex { hint: _ })) => String::from_str(alloc, "lex"),
-        Err(Miss::Because(ParseFault::Syntax { hint: _ })) => String::from_str(alloc, "syntax"),
+        Ok(file) => variable_text(alloc, &file),
+        Err(Miss::Because(ParseFault::Lex { hint })) => format!(in alloc; "lex {hint}"),
+        Err(Miss::Because(ParseFault::Syntax { hint })) => format!(in alloc; "syntax {hint}"),
         Err(Miss::Because(ParseFault::Dialect { line, form })) => {
             let form = form.as_str();
             format!(in alloc; "dialect {line} {form}")
@@ -58,7 +58,7 @@ fn names_of_extensions_are_variables(rt: HostRuntime) -> Result<(), Fail> {
         ("f = lambda a = lambda: 1: a", "f@0.0 #0 ; | #1 a@0.0 | |"),
     ];
     for (text, want) in cases {
-        let got = told(alloc, parse_bzl(alloc, text))?;
+        let got = file_text(alloc, parse_bzl(alloc, text))?;
         assert_eq!(rt; got.as_str(), want, "at {text}");
     }
     Ok(())
@@ -79,7 +79,7 @@ fn statements_bind_and_use_in_the_order_of_the_text(rt: HostRuntime) -> Result<(
         ),
         (
             "def f():\n  for a, b[len] in c: pass\n  if d: e = 1\nc = d = 1",
-            "syntax",
+            "syntax 2",
         ),
         (
             "def f():\n  for a, (b) in str: pass\n  if a: e = b",
@@ -87,7 +87,7 @@ fn statements_bind_and_use_in_the_order_of_the_text(rt: HostRuntime) -> Result<(
         ),
     ];
     for (text, want) in cases {
-        let got = told(alloc, parse_bzl(alloc, text))?;
+        let got = file_text(alloc, parse_bzl(alloc, text))?;
         assert_eq!(rt; got.as_str(), want, "at {text}");
     }
     Ok(())
@@ -108,7 +108,7 @@ fn names_of_modules_are_variables(rt: HostRuntime) -> Result<(), Fail> {
         ),
     ];
     for (text, want) in cases {
-        let got = told(alloc, parse_module(alloc, text))?;
+        let got = file_text(alloc, parse_module(alloc, text))?;
         assert_eq!(rt; got.as_str(), want, "at {text}");
     }
     Ok(())
@@ -125,20 +125,24 @@ fn refused_forms_come_before_unbound_names(rt: HostRuntime) -> Result<(), Fail> 
         ("x = y\nif True: pass", "dialect 2 if"),
         ("x = [i for i in i]", "unbound 1 i"),
         ("module(name = 'a')", "unbound 1 module"),
-        ("x = 1 < 2 < 3", "syntax"),
-        ("x = 01", "lex"),
+        ("x = 1 < 2 < 3", "syntax 1"),
+        ("x = 1\nif x:\n", "syntax 2"),
+        ("x = 01", "lex 1"),
+        ("(a,\n a) = 1, 2", "dialect 2 rebinding"),
+        ("(a,\n b) = 1, 2\nx = c", "unbound 3 c"),
     ];
     for (text, want) in extensions {
-        let got = told(alloc, parse_bzl(alloc, text))?;
+        let got = file_text(alloc, parse_bzl(alloc, text))?;
         assert_eq!(rt; got.as_str(), want, "at {text}");
     }
     let modules = [
         ("def f(): pass\n", "dialect 1 def"),
         ("x = y\nf(**{a: b for a in c})", "dialect 2 **"),
         ("x = struct()", "unbound 1 struct"),
+        ("module(**{})\nload(':a.bzl', 'x')\nmodule(**1)", "dialect 2 load"),
     ];
     for (text, want) in modules {
-        let got = told(alloc, parse_module(alloc, text))?;
+        let got = file_text(alloc, parse_module(alloc, text))?;
         assert_eq!(rt; got.as_str(), want, "at {text}");
     }
     Ok(())
