@@ -13,7 +13,7 @@ use star_grammar::{BareExpr, Level};
 use std::alloc::Global;
 
 /// An expression and its depth, held.
-pub(crate) type HeldTree = Held<(BareExpr, usize)>;
+pub type HeldTree = Held<(BareExpr, usize)>;
 
 /// How deep a tree may be.
 const DEEPEST: usize = 128;

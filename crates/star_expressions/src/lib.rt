@@ -19,6 +19,6 @@ mod targets;
 pub use arg_orders::are_params;
 pub use cursor::{Cursor, NoTree};
 pub use expressions::{expression, listed_params, target_list, test_list};
-pub use grammar::{checked, deep, only};
+pub use grammar::{HeldTree, checked, deep, only};
 pub use held::Held;
 pub use targets::{is_place, is_target};

@@ -1,4 +1,4 @@
--- Statements of which a part is read.
+-- What is left of a statement of which a part is read.
 use Rattle.std.specs.Prelude.{ℕ, max, List, if◌then◌else◌}
 use Rattle.star_grammar.specs.declared.bare_expressions.BareParam.{BareParam}
 use Rattle.star_grammar.specs.declared.bare_expressions.BareName.{BareName}
@@ -18,8 +18,8 @@ use Rattle.star_grammar.specs.StatementReading as spec
 use Rattle.star_grammar.specs.Statements.{Statements, in_function, in_loop, on_line}
 
 -- an assignment, an augmented one, or the expression alone
-abbrev pub begun : (Level → Reader Tree) → ℕ → Tree → Reader (Deep BareStmt)
-begun expressions line first = λ i.
+abbrev pub behind_expression : (Level → Reader Tree) → ℕ → Tree → Reader (Deep BareStmt)
+behind_expression expressions line first = λ i.
     if sees s.Assign i then (skip >> spec.assigned expressions line first) i
     else spec.changed_by expressions line first (front_of augmented i) i
 
