@@ -79,7 +79,7 @@ fn statements_bind_and_use_in_the_order_of_the_text(rt: HostRuntime) -> Result<(
         ),
         (
             "def f():\n  for a, b[len] in c: pass\n  if d: e = 1\nc = d = 1",
-            "syntax 2",
+            "syntax 4",
         ),
         (
             "def f():\n  for a, (b) in str: pass\n  if a: e = b",

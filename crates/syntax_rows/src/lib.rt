@@ -1,8 +1,10 @@
-//! Small texts beside what the crates of the syntax make of them: tokens, trees as they are written, and files with their names resolved. It holds tests alone, over public calls.
+//! Small texts beside what the crates of the syntax make of them: tokens, trees as they are written, scopes, and files with their names resolved. It holds tests alone, over public calls.
 #![tactic(auto)]
 
 #[cfg(test)]
 mod file_rows;
+#[cfg(test)]
+mod scope_rows;
 #[cfg(test)]
 mod token_rows;
 #[cfg(test)]

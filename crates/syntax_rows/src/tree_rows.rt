@@ -181,7 +181,7 @@ fn other_statements_have_no_tree(rt: HostRuntime) -> Result<(), Fail> {
         ("if a:", 1),
         ("x\nif a:\n", 2),
         ("x\n\ndef f():\n\n# c\n", 3),
-        ("if a:\n  if b:\n\n", 2),
+        ("if a:\n  if b:\n\n", 4),
     ];
     for (text, line) in cases {
         let got = parsed_text(alloc, text)?;

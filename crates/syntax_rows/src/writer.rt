@@ -1,4 +1,5 @@
 //! A text that grows. Want of memory is kept until the end, so that no step has to look at it.
+use star_trees::Var;
 use std::alloc::{AllocError, Global};
 
 #[derive(Drop)]
@@ -30,6 +31,17 @@ impl Writer {
         }
     }
 
+    pub(crate) fn open(&mut self, word: &str) {
+        self.put("(");
+        self.put(word);
+        self.put(" ");
+    }
+
+    pub(crate) fn variable(&mut self, variable: &Var) {
+        self.put(variable.name.as_str());
+        self.place(variable.scope, variable.slot)
+    }
+
     pub(crate) fn number(&mut self, value: i64) {
         self.put_all(format!(in self.alloc; "{value}"))
     }
@@ -38,7 +50,7 @@ impl Writer {
         self.put_all(format!(in self.alloc; "@{line}"))
     }
 
-    pub(crate) fn place(&mut self, scope: u32, slot: u32) {
+    fn place(&mut self, scope: u32, slot: u32) {
         self.put_all(format!(in self.alloc; "@{scope}.{slot} "))
     }
 
