@@ -9,7 +9,7 @@ pub first_among-drop : {A B : Type 0} (of : B → Option Refused) (part : A → 
     → i < length xs
     → x ≡ get_or xs i x
     → first_among of (map part (drop i xs))
-      ≡ option_or (of (part x)) (first_among of (map part (drop (i + 1) xs)))
+    ≡ option_or (of (part x)) (first_among of (map part (drop (i + 1) xs)))
 first_among-drop of part xs i x below is =
     ap (λ l. first_among of (map part l)) (drop-next xs i x below is)
 

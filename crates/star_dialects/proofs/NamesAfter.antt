@@ -22,7 +22,7 @@ names_after-drop : {A : Type 0} (names : Names) (part : A → List Place) (xs : 
     → i < length xs
     → x ≡ get_or xs i x
     → names_after names (all_places (map part (drop i xs)))
-      ≡ and_then_names (names_after names (part x)) (λ more. names_after more (all_places (map part (drop (i + 1) xs))))
+    ≡ and_then_names (names_after names (part x)) (λ more. names_after more (all_places (map part (drop (i + 1) xs))))
 names_after-drop names part xs i x below is =
     ap (λ l. names_after names (all_places (map part l))) (drop-next xs i x below is)
     ∙ names_after-append names (part x) (all_places (map part (drop (i + 1) xs)))

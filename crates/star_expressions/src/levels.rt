@@ -15,8 +15,8 @@ use crate::grammar::{Grammar, HeldTree, boxed, checked, deep};
 use crate::held::Held;
 use bz_text::May;
 use sqlite_items::Boxed;
-use star_trees::{BinOp, UnOp};
 use star_grammar::{BareExpr, Level, Sign};
+use star_trees::{BinOp, UnOp};
 use std::alloc::Global;
 
 /// How many levels of operators bind tighter than a comparison.
@@ -129,11 +129,7 @@ impl<F: Fn(Global, &mut Cursor<'_>, usize, Level) -> May<(BareExpr, usize), NoTr
 
     /// `'not' 'in'`, and the right operand.
     #[tactic(auto, unfolding(star_grammar::specs::ExpressionReading::outside))]
-    fn outside(
-        &self,
-        symbols: &mut Cursor<'_>,
-        left: HeldTree,
-    ) -> May<(BareExpr, usize), NoTree>
+    fn outside(&self, symbols: &mut Cursor<'_>, left: HeldTree) -> May<(BareExpr, usize), NoTree>
         requires { Nests self.now.nesting (F.pre self.now.nested) (F.post self.now.nested) }
         ensures { Reads (spec.outside (reads self.now.nesting) left symbols.old.rest.now) result symbols.new.rest.now }
     {
@@ -141,11 +137,7 @@ impl<F: Fn(Global, &mut Cursor<'_>, usize, Level) -> May<(BareExpr, usize), NoTr
         self.operated(symbols, BinOp::NotWithin, left)
     }
 
-    fn compared(
-        &self,
-        symbols: &mut Cursor<'_>,
-        left: HeldTree,
-    ) -> May<(BareExpr, usize), NoTree>
+    fn compared(&self, symbols: &mut Cursor<'_>, left: HeldTree) -> May<(BareExpr, usize), NoTree>
         requires { Nests self.now.nesting (F.pre self.now.nested) (F.post self.now.nested) }
         ensures { Reads (spec.compared_by (reads self.now.nesting) left (front_of operators.comparison symbols.old.rest.now) symbols.old.rest.now) result symbols.new.rest.now }
     {

@@ -49,11 +49,7 @@ impl<F: Fn(Global, &mut Cursor<'_>, usize, Level) -> May<(BareExpr, usize), NoTr
 
     /// `Comp ']'`, behind `[` and an item.
     #[tactic(auto, unfolding(star_grammar::specs::ExpressionReading::list_comp))]
-    fn list_comp(
-        &self,
-        symbols: &mut Cursor<'_>,
-        item: HeldTree,
-    ) -> May<(BareExpr, usize), NoTree>
+    fn list_comp(&self, symbols: &mut Cursor<'_>, item: HeldTree) -> May<(BareExpr, usize), NoTree>
         requires { Nests self.now.nesting (F.pre self.now.nested) (F.post self.now.nested) }
         ensures { Reads (spec.list_comp (reads self.now.nesting) item symbols.old.rest.now) result symbols.new.rest.now }
     {

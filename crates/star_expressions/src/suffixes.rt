@@ -53,11 +53,7 @@ fn sliced(
 impl<F: Fn(Global, &mut Cursor<'_>, usize, Level) -> May<(BareExpr, usize), NoTree>> Grammar<F> {
     /// `'.' identifier`, behind the dot.
     #[tactic(auto, unfolding(star_grammar::specs::ExpressionReading::attr))]
-    fn attr(
-        &self,
-        symbols: &mut Cursor<'_>,
-        of: HeldTree,
-    ) -> May<(BareExpr, usize), NoTree>
+    fn attr(&self, symbols: &mut Cursor<'_>, of: HeldTree) -> May<(BareExpr, usize), NoTree>
         requires { Nests self.now.nesting (F.pre self.now.nested) (F.post self.now.nested) }
         ensures { Reads (spec.attr (reads self.now.nesting) of symbols.old.rest.now) result symbols.new.rest.now }
     {
@@ -68,11 +64,7 @@ impl<F: Fn(Global, &mut Cursor<'_>, usize, Level) -> May<(BareExpr, usize), NoTr
 
     /// `'(' [Arg {',' Arg} [',']] ')'`, behind the bracket.
     #[tactic(auto, unfolding(star_grammar::specs::ExpressionReading::call))]
-    fn call(
-        &self,
-        symbols: &mut Cursor<'_>,
-        of: HeldTree,
-    ) -> May<(BareExpr, usize), NoTree>
+    fn call(&self, symbols: &mut Cursor<'_>, of: HeldTree) -> May<(BareExpr, usize), NoTree>
         requires { Nests self.now.nesting (F.pre self.now.nested) (F.post self.now.nested) }
         ensures { Reads (spec.call (reads self.now.nesting) of symbols.old.rest.now) result symbols.new.rest.now }
     {
@@ -165,11 +157,7 @@ impl<F: Fn(Global, &mut Cursor<'_>, usize, Level) -> May<(BareExpr, usize), NoTr
 
     /// What stands behind `[`.
     #[tactic(auto, unfolding(star_grammar::specs::ExpressionReading::subscript))]
-    fn subscript(
-        &self,
-        symbols: &mut Cursor<'_>,
-        of: HeldTree,
-    ) -> May<(BareExpr, usize), NoTree>
+    fn subscript(&self, symbols: &mut Cursor<'_>, of: HeldTree) -> May<(BareExpr, usize), NoTree>
         requires { Nests self.now.nesting (F.pre self.now.nested) (F.post self.now.nested) }
         ensures { Reads (spec.subscript (reads self.now.nesting) of symbols.old.rest.now) result symbols.new.rest.now }
     {
@@ -181,11 +169,7 @@ impl<F: Fn(Global, &mut Cursor<'_>, usize, Level) -> May<(BareExpr, usize), NoTr
     }
 
     #[tactic(auto, unfolding(star_grammar::specs::ExpressionReading::suffix))]
-    fn suffix(
-        &self,
-        symbols: &mut Cursor<'_>,
-        of: HeldTree,
-    ) -> May<(BareExpr, usize), NoTree>
+    fn suffix(&self, symbols: &mut Cursor<'_>, of: HeldTree) -> May<(BareExpr, usize), NoTree>
         requires { Nests self.now.nesting (F.pre self.now.nested) (F.post self.now.nested) }
         ensures { Reads (spec.suffix (reads self.now.nesting) of symbols.old.rest.now) result symbols.new.rest.now }
     {

@@ -8,11 +8,11 @@ ghost use Rattle.star_scopes.specs.Files.{resolved};
 ghost use Rattle.star_scopes.specs.declared.dialects.Dialect.TheVariants as dialect;
 
 use bz_text::{May, Mem, Miss, Txt};
-use star_trees::File;
 use star_dialects::{Refused, refused_in_bzl, refused_in_module};
 use star_grammar::BareStmt;
 use star_scopes::{Dialect, Unbound, resolved};
 use star_statements::{TreeFault, tree};
+use star_trees::File;
 use std::alloc::Global;
 
 /// Why a text is no file of its dialect. The hint is the line to look at; `form` is the form that is refused.

@@ -21,9 +21,7 @@ use star_expressions::{
     Cursor, Held, HeldTree, NoTree, are_params, checked, deep, expression, listed_params, only,
     target_list, test_list,
 };
-use star_grammar::{
-    BareName, BareParam, BareStmt, BareStmtKind, Inside, Level, Part, Sign,
-};
+use star_grammar::{BareName, BareParam, BareStmt, BareStmtKind, Inside, Level, Part, Sign};
 use std::alloc::Global;
 
 /// `nested` reads statements in which so many constructs nest at most.

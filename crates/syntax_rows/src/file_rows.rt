@@ -139,7 +139,10 @@ fn refused_forms_come_before_unbound_names(rt: HostRuntime) -> Result<(), Fail> 
         ("def f(): pass\n", "dialect 1 def"),
         ("x = y\nf(**{a: b for a in c})", "dialect 2 **"),
         ("x = struct()", "unbound 1 struct"),
-        ("module(**{})\nload(':a.bzl', 'x')\nmodule(**1)", "dialect 2 load"),
+        (
+            "module(**{})\nload(':a.bzl', 'x')\nmodule(**1)",
+            "dialect 2 load",
+        ),
     ];
     for (text, want) in modules {
         let got = file_text(alloc, parse_module(alloc, text))?;

@@ -261,12 +261,7 @@ fn write_args(writer: &mut Writer, args: &[BareArg]) {
     writer.put(")")
 }
 
-fn write_two(
-    writer: &mut Writer,
-    word: &str,
-    left: &BareExpr,
-    right: &BareExpr,
-) {
+fn write_two(writer: &mut Writer, word: &str, left: &BareExpr, right: &BareExpr) {
     writer.open(word);
     write_expr(writer, left);
     writer.put(" ");
