@@ -25,7 +25,6 @@ pub enum ParseFault {
 }
 
 /// An extension's or a rule's file. It is well formed: an evaluation may rest on its places, variables and depth.
-#[tactic(auto, using(crate::proofs::WellFormed::parses_well_formed))]
 pub fn parse_bzl(alloc: Global, text: &str) -> May<File, ParseFault>
     ensures parses { Parses dialect.Extension text.now result }
     ensures well_formed { IfOk result WellFormed }
@@ -34,7 +33,6 @@ pub fn parse_bzl(alloc: Global, text: &str) -> May<File, ParseFault>
 }
 
 /// A module's file. It is well formed: an evaluation may rest on its places, variables and depth.
-#[tactic(auto, using(crate::proofs::WellFormed::parses_well_formed))]
 pub fn parse_module(alloc: Global, text: &str) -> May<File, ParseFault>
     ensures parses { Parses dialect.Module text.now result }
     ensures well_formed { IfOk result WellFormed }
