@@ -1,3 +1,3 @@
 pub mod FirstAmong
 pub mod StatementPlaces
-pub mod Walked
+pub mod NamesAfter

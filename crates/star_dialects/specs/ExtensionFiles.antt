@@ -62,23 +62,23 @@ body_places = flat_map statement_places
 -- ---- the first of them that is refused
 
 -- a name that stands at a place among the names bound so far is bound again
-abbrev pub bound : Option ℕ → Names → BareName → Result Names Refused
-bound (Some _) names name = Err (form_on name.line form.Rebinding)
-bound None names name = Ok (with_binding names name.name)
+abbrev pub names_with_name : Option ℕ → Names → BareName → Result Names Refused
+names_with_name (Some _) names name = Err (form_on name.line form.Rebinding)
+names_with_name None names name = Ok (with_binding names name.name)
 
-abbrev pub taken : Names → Place → Result Names Refused
-taken names (binds name) = bound (slot_of names name.name) names name
-taken names (stands refused) = Err refused
+abbrev pub names_with : Names → Place → Result Names Refused
+names_with names (binds name) = names_with_name (slot_of names name.name) names name
+names_with names (stands refused) = Err refused
 
-abbrev pub followed : Result Names Refused → (Names → Result Names Refused) → Result Names Refused
-followed (Err refused) next = Err refused
-followed (Ok names) next = next names
+abbrev pub and_then_names : Result Names Refused → (Names → Result Names Refused) → Result Names Refused
+and_then_names (Err refused) next = Err refused
+and_then_names (Ok names) next = next names
 
 -- the names after some places, or what is refused first
-abbrev pub walked : Names → List Place → Result Names Refused
-walked names [] = Ok names
-walked names (at ∷ places) = followed (taken names at) (λ more. walked more places)
+abbrev pub names_after : Names → List Place → Result Names Refused
+names_after names [] = Ok names
+names_after names (at ∷ places) = and_then_names (names_with names at) (λ more. names_after more places)
 
 -- the first of a file that is refused, in the order of its text
 abbrev pub first_in_bzl : List BareStmt → Option Refused
-first_in_bzl body = result_err (walked [] (body_places body))
+first_in_bzl body = result_err (names_after [] (body_places body))

@@ -21,9 +21,9 @@ pub fn refused_in_bzl(alloc: Global, body: &[BareStmt]) -> Mem<Option<Refused>>
     }
 }
 
-#[tactic(auto, using(crate::proofs::Walked::walks))]
+#[tactic(auto, using(crate::proofs::NamesAfter::walks))]
 fn with_statements(alloc: Global, body: &[BareStmt], names: Names) -> May<Names, Refused>
-    ensures { Gives (spec.walked names (spec.body_places body.now)) result }
+    ensures { Gives (spec.names_after names (spec.body_places body.now)) result }
 {
     let mut names = names;
     let mut rest = body;
@@ -39,7 +39,7 @@ fn with_statements(alloc: Global, body: &[BareStmt], names: Names) -> May<Names,
 
 #[tactic(auto, using(crate::proofs::StatementPlaces::statement_kinds))]
 fn with_statement(alloc: Global, statement: &BareStmt, names: Names) -> May<Names, Refused>
-    ensures { Gives (spec.walked names (spec.statement_places statement.now)) result }
+    ensures { Gives (spec.names_after names (spec.statement_places statement.now)) result }
 {
     let line = statement.line;
     match &statement.kind {
@@ -79,7 +79,7 @@ fn refused(line: u64, form: Form) -> May<Names, Refused>
 }
 
 fn with_name(alloc: Global, name: &Txt, line: u64, names: Names) -> May<Names, Refused>
-    ensures { Gives (spec.walked names (spec.binding name.now line ∷ [])) result }
+    ensures { Gives (spec.names_after names (spec.binding name.now line ∷ [])) result }
 {
     match names.slot_of(name.as_str()) {
         Some(_) => refused(line, Form::Rebinding),
@@ -87,9 +87,9 @@ fn with_name(alloc: Global, name: &Txt, line: u64, names: Names) -> May<Names, R
     }
 }
 
-#[tactic(auto, using(crate::proofs::Walked::walks))]
+#[tactic(auto, using(crate::proofs::NamesAfter::walks))]
 fn with_loaded(alloc: Global, loaded: &[BareLoadName], names: Names) -> May<Names, Refused>
-    ensures { Gives (spec.walked names (map spec.load_place loaded.now)) result }
+    ensures { Gives (spec.names_after names (map spec.load_place loaded.now)) result }
 {
     let mut names = names;
     let mut rest = loaded;
@@ -105,7 +105,7 @@ fn with_loaded(alloc: Global, loaded: &[BareLoadName], names: Names) -> May<Name
 
 #[cycle(targets)]
 fn with_target(alloc: Global, target: &BareExpr, names: Names) -> May<Names, Refused>
-    ensures { Gives (spec.walked names (spec.target_places target.now)) result }
+    ensures { Gives (spec.names_after names (spec.target_places target.now)) result }
 {
     match target {
         BareExpr::Name(name) => with_name(alloc, &name.name, name.line, names),
@@ -118,7 +118,7 @@ fn with_target(alloc: Global, target: &BareExpr, names: Names) -> May<Names, Ref
 
 #[cycle(targets)]
 fn with_targets(alloc: Global, targets: &[BareExpr], names: Names) -> May<Names, Refused>
-    ensures { Gives (spec.walked names (spec.all_places (map spec.target_places targets.now))) result }
+    ensures { Gives (spec.names_after names (spec.all_places (map spec.target_places targets.now))) result }
 {
     let mut names = names;
     'turns: for target in targets {
@@ -128,39 +128,4 @@ fn with_targets(alloc: Global, targets: &[BareExpr], names: Names) -> May<Names,
         };
     }
     Ok(names)
-}
-
-#[cfg(test)]
-mod tests {
-    use super::*;
-    use sqlite_items::Items;
-    use star_grammar::BareName;
-    use std::test::Fail;
-
-    /// `a, SECOND = 1`, the second name on line 2
-    fn pair(alloc: Global, second: &str) -> Mem<Items<BareStmt>> {
-        let mut targets = Items::new(alloc);
-        let name = Txt::of(alloc, "a")?;
-        targets.push(BareExpr::Name(BareName { name, line: 1 }))?;
-        let name = Txt::of(alloc, second)?;
-        targets.push(BareExpr::Name(BareName { name, line: 2 }))?;
-        let to = BareExpr::Tuple(targets);
-        let value = BareExpr::Int(1);
-        let kind = BareStmtKind::Assign { to, value };
-        let mut body = Items::new(alloc);
-        body.push(BareStmt { line: 1, kind })?;
-        Ok(body)
-    }
-
-    #[test]
-    fn a_name_is_bound_once(rt: HostRuntime) -> Result<(), Fail> {
-        let alloc = rt.alloc();
-        let body = pair(alloc, "b")?;
-        assert_eq!(rt; refused_in_bzl(alloc, body.as_slice())?, None);
-        let body = pair(alloc, "a")?;
-        let form = Form::Rebinding;
-        let refused = refused_in_bzl(alloc, body.as_slice())?;
-        assert_eq!(rt; refused, Some(Refused { line: 2, form }));
-        Ok(())
-    }
 }

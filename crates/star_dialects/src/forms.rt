@@ -38,15 +38,3 @@ impl Form {
         }
     }
 }
-
-#[cfg(test)]
-mod tests {
-    use super::*;
-    use std::test::Fail;
-
-    #[test]
-    fn a_mark_is_told_as_it_is_written(rt: HostRuntime) -> Result<(), Fail> {
-        assert_eq!(rt; Form::StarStar.text(), "**");
-        Ok(())
-    }
-}

@@ -9,6 +9,7 @@ ghost use Rattle.star_expressions.specs.Reads.{Reads};
 
 use crate::cursor::{Cursor, NoTree};
 use crate::grammar::{Grammar, only};
+use crate::held::Held;
 use bz_text::May;
 use sqlite_items::Items;
 use star_grammar::{BareClause, BareExpr, Level, Sign};
@@ -28,9 +29,10 @@ impl<F: Fn(Global, &mut Cursor<'_>, usize, Level) -> May<(BareExpr, usize), NoTr
         ensures { Reads (spec.for_clause (reads self.now.nesting) symbols.old.rest.now) result symbols.new.rest.now }
     {
         symbols.expect(Sign::For)?;
-        let (to, depth) = self.vars(symbols)?;
+        let to = Held::new(self.vars(symbols)?);
         symbols.expect(Sign::In)?;
         let (over, own) = self.nested(symbols, Level::Disjunction)?;
+        let (to, depth) = to.release();
         Ok((BareClause::For { to, over }, depth.max(own)))
     }
 

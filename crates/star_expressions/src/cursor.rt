@@ -8,8 +8,8 @@ ghost use Rattle.star_expressions.specs.Reads.{Finds, Reads};
 
 use crate::operators;
 use bz_text::{May, Miss, Txt};
-use star_trees::{BinOp, UnOp};
 use star_grammar::{Sign, Symbol, SymbolKind};
+use star_trees::{BinOp, UnOp};
 use std::alloc::Global;
 
 /// No tree stands there.

@@ -6,10 +6,14 @@ ghost use Rattle.star_expressions.specs.Nests.{Nests};
 ghost use Rattle.star_expressions.specs.Reads.{Finds, Reads};
 
 use crate::cursor::{Cursor, NoTree};
+use crate::held::Held;
 use bz_text::{May, Mem, Miss};
-use sqlite_items::Items;
+use sqlite_items::{Boxed, Items};
 use star_grammar::{BareExpr, Level};
 use std::alloc::Global;
+
+/// An expression and its depth, held.
+pub type HeldTree = Held<(BareExpr, usize)>;
 
 /// How deep a tree may be.
 const DEEPEST: usize = 128;
@@ -56,6 +60,14 @@ pub fn checked(holds: bool) -> May<(), NoTree>
     } else {
         Err(Miss::Because(NoTree))
     }
+}
+
+/// An expression in a box, with its depth.
+pub(crate) fn boxed(alloc: Global, tree: HeldTree) -> Mem<(Boxed<BareExpr>, usize)>
+    ensures { IfOk result (λ boxed. boxed ≡ tree) }
+{
+    let (tree, depth) = tree.release();
+    Ok((Boxed::new(alloc, tree)?, depth))
 }
 
 /// The list of one item.

@@ -11,11 +11,12 @@ ghost use Rattle.star_expressions.specs.Reads.{Finds, Reads};
 
 use crate::arg_orders::are_params;
 use crate::cursor::{Cursor, NoTree};
-use crate::grammar::{Grammar, checked, deep};
+use crate::grammar::{Grammar, HeldTree, boxed, checked, deep};
+use crate::held::Held;
 use bz_text::May;
 use sqlite_items::Boxed;
-use star_trees::{BinOp, UnOp};
 use star_grammar::{BareExpr, Level, Sign};
+use star_trees::{BinOp, UnOp};
 use std::alloc::Global;
 
 /// How many levels of operators bind tighter than a comparison.
@@ -31,33 +32,28 @@ const DISJUNCTION: usize = 7;
 fn joined(
     alloc: Global,
     op: BinOp,
-    left: (BareExpr, usize),
-    right: (BareExpr, usize),
+    left: HeldTree,
+    right: HeldTree,
 ) -> May<(BareExpr, usize), NoTree>
     ensures { Finds (deep (e.Binary op left.0 right.0) (max left.1 right.1)) result }
 {
-    let (left, depth) = left;
-    let (right, own) = right;
-    let left = Boxed::new(alloc, left)?;
-    let right = Boxed::new(alloc, right)?;
+    let (left, depth) = boxed(alloc, left)?;
+    let (right, own) = boxed(alloc, right)?;
     deep(BareExpr::Binary { op, left, right }, depth.max(own))
 }
 
 /// A conditional expression over its parts.
 fn selected(
     alloc: Global,
-    test: (BareExpr, usize),
-    chosen: (BareExpr, usize),
-    other: (BareExpr, usize),
+    test: HeldTree,
+    chosen: HeldTree,
+    other: HeldTree,
 ) -> May<(BareExpr, usize), NoTree>
     ensures { Finds (deep (e.Cond test.0 chosen.0 other.0) (max chosen.1 (max test.1 other.1))) result }
 {
-    let (test, depth) = test;
-    let (chosen, own) = chosen;
-    let (other, last) = other;
-    let test = Boxed::new(alloc, test)?;
-    let then = Boxed::new(alloc, chosen)?;
-    let other = Boxed::new(alloc, other)?;
+    let (test, depth) = boxed(alloc, test)?;
+    let (then, own) = boxed(alloc, chosen)?;
+    let (other, last) = boxed(alloc, other)?;
     deep(
         BareExpr::Cond { test, then, other },
         own.max(depth.max(last)),
@@ -103,16 +99,16 @@ impl<F: Fn(Global, &mut Cursor<'_>, usize, Level) -> May<(BareExpr, usize), NoTr
         if levels == 0 {
             return self.unary(symbols);
         }
-        let mut left = self.arithmetic(symbols, levels - 1)?;
+        let mut left = Held::new(self.arithmetic(symbols, levels - 1)?);
         'turns: for turn in 0..symbols.left() {
             let Some(op) = symbols.operator(levels - 1) else {
-                return Ok(left);
+                return Ok(left.release());
             };
             symbols.skip();
-            let right = self.arithmetic(symbols, levels - 1)?;
-            left = joined(self.alloc, op, left, right)?;
+            let right = Held::new(self.arithmetic(symbols, levels - 1)?);
+            left = Held::new(joined(self.alloc, op, left, right)?);
         }
-        Ok(left)
+        Ok(left.release())
     }
 
     /// A comparison by one sign, and its right operand.
@@ -121,23 +117,19 @@ impl<F: Fn(Global, &mut Cursor<'_>, usize, Level) -> May<(BareExpr, usize), NoTr
         &self,
         symbols: &mut Cursor<'_>,
         op: BinOp,
-        left: (BareExpr, usize),
+        left: HeldTree,
     ) -> May<(BareExpr, usize), NoTree>
         requires { Nests self.now.nesting (F.pre self.now.nested) (F.post self.now.nested) }
         ensures { Reads (spec.operated (reads self.now.nesting) (spec.arithmetic (reads self.now.nesting) 6) op left symbols.old.rest.now) result symbols.new.rest.now }
     {
         symbols.skip();
         let right = self.arithmetic(symbols, ARITHMETIC)?;
-        joined(self.alloc, op, left, right)
+        joined(self.alloc, op, left, Held::new(right))
     }
 
     /// `'not' 'in'`, and the right operand.
     #[tactic(auto, unfolding(star_grammar::specs::ExpressionReading::outside))]
-    fn outside(
-        &self,
-        symbols: &mut Cursor<'_>,
-        left: (BareExpr, usize),
-    ) -> May<(BareExpr, usize), NoTree>
+    fn outside(&self, symbols: &mut Cursor<'_>, left: HeldTree) -> May<(BareExpr, usize), NoTree>
         requires { Nests self.now.nesting (F.pre self.now.nested) (F.post self.now.nested) }
         ensures { Reads (spec.outside (reads self.now.nesting) left symbols.old.rest.now) result symbols.new.rest.now }
     {
@@ -145,11 +137,7 @@ impl<F: Fn(Global, &mut Cursor<'_>, usize, Level) -> May<(BareExpr, usize), NoTr
         self.operated(symbols, BinOp::NotWithin, left)
     }
 
-    fn compared(
-        &self,
-        symbols: &mut Cursor<'_>,
-        left: (BareExpr, usize),
-    ) -> May<(BareExpr, usize), NoTree>
+    fn compared(&self, symbols: &mut Cursor<'_>, left: HeldTree) -> May<(BareExpr, usize), NoTree>
         requires { Nests self.now.nesting (F.pre self.now.nested) (F.post self.now.nested) }
         ensures { Reads (spec.compared_by (reads self.now.nesting) left (front_of operators.comparison symbols.old.rest.now) symbols.old.rest.now) result symbols.new.rest.now }
     {
@@ -159,7 +147,7 @@ impl<F: Fn(Global, &mut Cursor<'_>, usize, Level) -> May<(BareExpr, usize), NoTr
                 if symbols.sees(Sign::Not) && symbols.sees_behind(Sign::In) {
                     self.outside(symbols, left)
                 } else {
-                    Ok(left)
+                    Ok(left.release())
                 }
             }
         }
@@ -172,7 +160,7 @@ impl<F: Fn(Global, &mut Cursor<'_>, usize, Level) -> May<(BareExpr, usize), NoTr
         ensures { Reads (spec.comparison (reads self.now.nesting) symbols.old.rest.now) result symbols.new.rest.now }
     {
         let left = self.arithmetic(symbols, ARITHMETIC)?;
-        self.compared(symbols, left)
+        self.compared(symbols, Held::new(left))
     }
 
     /// `'not' Negation | Comparison`
@@ -192,16 +180,16 @@ impl<F: Fn(Global, &mut Cursor<'_>, usize, Level) -> May<(BareExpr, usize), NoTr
         requires { Nests self.now.nesting (F.pre self.now.nested) (F.post self.now.nested) }
         ensures { Reads (spec.conjunction (reads self.now.nesting) symbols.old.rest.now) result symbols.new.rest.now }
     {
-        let mut left = self.negation(symbols)?;
+        let mut left = Held::new(self.negation(symbols)?);
         'turns: for turn in 0..symbols.left() {
             let Some(op) = symbols.operator(CONJUNCTION) else {
-                return Ok(left);
+                return Ok(left.release());
             };
             symbols.skip();
-            let right = self.negation(symbols)?;
-            left = joined(self.alloc, op, left, right)?;
+            let right = Held::new(self.negation(symbols)?);
+            left = Held::new(joined(self.alloc, op, left, right)?);
         }
-        Ok(left)
+        Ok(left.release())
     }
 
     #[tactic(auto, unfolding(star_grammar::specs::ExpressionReading::disjunction, star_grammar::specs::Readers::rounds, star_grammar::specs::ExpressionReading::operated))]
@@ -209,16 +197,16 @@ impl<F: Fn(Global, &mut Cursor<'_>, usize, Level) -> May<(BareExpr, usize), NoTr
         requires { Nests self.now.nesting (F.pre self.now.nested) (F.post self.now.nested) }
         ensures { Reads (spec.disjunction (reads self.now.nesting) symbols.old.rest.now) result symbols.new.rest.now }
     {
-        let mut left = self.conjunction(symbols)?;
+        let mut left = Held::new(self.conjunction(symbols)?);
         'turns: for turn in 0..symbols.left() {
             let Some(op) = symbols.operator(DISJUNCTION) else {
-                return Ok(left);
+                return Ok(left.release());
             };
             symbols.skip();
-            let right = self.conjunction(symbols)?;
-            left = joined(self.alloc, op, left, right)?;
+            let right = Held::new(self.conjunction(symbols)?);
+            left = Held::new(joined(self.alloc, op, left, right)?);
         }
-        Ok(left)
+        Ok(left.release())
     }
 
     /// `Or 'else' Test`, behind `if`.
@@ -226,15 +214,15 @@ impl<F: Fn(Global, &mut Cursor<'_>, usize, Level) -> May<(BareExpr, usize), NoTr
     fn conditional(
         &self,
         symbols: &mut Cursor<'_>,
-        chosen: (BareExpr, usize),
+        chosen: HeldTree,
     ) -> May<(BareExpr, usize), NoTree>
         requires { Nests self.now.nesting (F.pre self.now.nested) (F.post self.now.nested) }
         ensures { Reads (spec.conditional (reads self.now.nesting) chosen symbols.old.rest.now) result symbols.new.rest.now }
     {
-        let test = self.disjunction(symbols)?;
+        let test = Held::new(self.disjunction(symbols)?);
         symbols.expect(Sign::Else)?;
         let other = self.nested(symbols, Level::Test)?;
-        selected(self.alloc, test, chosen, other)
+        selected(self.alloc, test, chosen, Held::new(other))
     }
 
     /// `Or ['if' Or 'else' Test]`
@@ -245,7 +233,7 @@ impl<F: Fn(Global, &mut Cursor<'_>, usize, Level) -> May<(BareExpr, usize), NoTr
     {
         let first = self.disjunction(symbols)?;
         if symbols.eat(Sign::If) {
-            self.conditional(symbols, first)
+            self.conditional(symbols, Held::new(first))
         } else {
             Ok(first)
         }

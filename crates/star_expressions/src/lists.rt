@@ -11,6 +11,7 @@ ghost use Rattle.star_expressions.specs.Reads.{Finds, Reads};
 
 use crate::cursor::{Cursor, NoTree};
 use crate::grammar::{Grammar, checked, deep, only};
+use crate::held::Held;
 use crate::targets::is_target;
 use bz_text::May;
 use sqlite_items::{Boxed, Items};
@@ -104,8 +105,8 @@ impl<F: Fn(Global, &mut Cursor<'_>, usize, Level) -> May<(BareExpr, usize), NoTr
         requires { Nests self.now.nesting (F.pre self.now.nested) (F.post self.now.nested) }
         ensures { Reads (spec.vars (reads self.now.nesting level.Primary) symbols.old.rest.now) result symbols.new.rest.now }
     {
-        let (targets, depth) = self.expression(symbols, Level::Primary)?;
-        checked(is_target(&targets))?;
-        Ok((targets, depth))
+        let targets = Held::new(self.expression(symbols, Level::Primary)?);
+        checked(is_target(&targets.get().0))?;
+        Ok(targets.release())
     }
 }

@@ -8,10 +8,11 @@ ghost use Rattle.star_expressions.specs.Nests.{Nests};
 ghost use Rattle.star_expressions.specs.Reads.{Finds, Reads};
 
 use crate::cursor::{Cursor, NoTree};
-use crate::grammar::{Grammar, deep, only};
+use crate::grammar::{Grammar, HeldTree, boxed, deep, only};
+use crate::held::Held;
 use crate::lists::bracketed;
 use bz_text::{May, Miss};
-use sqlite_items::{Boxed, Items};
+use sqlite_items::Items;
 use star_grammar::{BareExpr, BareName, BarePair, Level, Sign, SymbolKind};
 use std::alloc::Global;
 
@@ -48,18 +49,13 @@ impl<F: Fn(Global, &mut Cursor<'_>, usize, Level) -> May<(BareExpr, usize), NoTr
 
     /// `Comp ']'`, behind `[` and an item.
     #[tactic(auto, unfolding(star_grammar::specs::ExpressionReading::list_comp))]
-    fn list_comp(
-        &self,
-        symbols: &mut Cursor<'_>,
-        item: (BareExpr, usize),
-    ) -> May<(BareExpr, usize), NoTree>
+    fn list_comp(&self, symbols: &mut Cursor<'_>, item: HeldTree) -> May<(BareExpr, usize), NoTree>
         requires { Nests self.now.nesting (F.pre self.now.nested) (F.post self.now.nested) }
         ensures { Reads (spec.list_comp (reads self.now.nesting) item symbols.old.rest.now) result symbols.new.rest.now }
     {
-        let (item, depth) = item;
         let (clauses, own) = self.comp(symbols)?;
         symbols.expect(Sign::RightSquare)?;
-        let item = Boxed::new(self.alloc, item)?;
+        let (item, depth) = boxed(self.alloc, item)?;
         deep(BareExpr::ListComp { item, clauses }, depth.max(own))
     }
 
@@ -89,7 +85,7 @@ impl<F: Fn(Global, &mut Cursor<'_>, usize, Level) -> May<(BareExpr, usize), NoTr
         }
         let first = self.nested(symbols, Level::Test)?;
         if symbols.sees(Sign::For) {
-            self.list_comp(symbols, first)
+            self.list_comp(symbols, Held::new(first))
         } else {
             self.list_of(symbols, first)
         }
@@ -101,9 +97,10 @@ impl<F: Fn(Global, &mut Cursor<'_>, usize, Level) -> May<(BareExpr, usize), NoTr
         requires { Nests self.now.nesting (F.pre self.now.nested) (F.post self.now.nested) }
         ensures { Reads (spec.entry (reads self.now.nesting) symbols.old.rest.now) result symbols.new.rest.now }
     {
-        let (key, depth) = self.nested(symbols, Level::Test)?;
+        let key = Held::new(self.nested(symbols, Level::Test)?);
         symbols.expect(Sign::Colon)?;
         let (value, own) = self.nested(symbols, Level::Test)?;
+        let (key, depth) = key.release();
         Ok((BarePair { key, value }, depth.max(own)))
     }
 
@@ -136,18 +133,16 @@ impl<F: Fn(Global, &mut Cursor<'_>, usize, Level) -> May<(BareExpr, usize), NoTr
     fn dict_comp(
         &self,
         symbols: &mut Cursor<'_>,
-        key: (BareExpr, usize),
-        value: (BareExpr, usize),
+        key: HeldTree,
+        value: HeldTree,
     ) -> May<(BareExpr, usize), NoTree>
         requires { Nests self.now.nesting (F.pre self.now.nested) (F.post self.now.nested) }
         ensures { Reads (spec.dict_comp (reads self.now.nesting) key value symbols.old.rest.now) result symbols.new.rest.now }
     {
-        let (key, depth) = key;
-        let (value, own) = value;
         let (clauses, last) = self.comp(symbols)?;
         symbols.expect(Sign::RightCurly)?;
-        let key = Boxed::new(self.alloc, key)?;
-        let value = Boxed::new(self.alloc, value)?;
+        let (key, depth) = boxed(self.alloc, key)?;
+        let (value, own) = boxed(self.alloc, value)?;
         let comp = BareExpr::DictComp {
             key,
             value,
@@ -180,12 +175,14 @@ impl<F: Fn(Global, &mut Cursor<'_>, usize, Level) -> May<(BareExpr, usize), NoTr
         if symbols.eat(Sign::RightCurly) {
             return deep(BareExpr::Dict(Items::new(self.alloc)), 0);
         }
-        let (key, depth) = self.nested(symbols, Level::Test)?;
+        let key = Held::new(self.nested(symbols, Level::Test)?);
         symbols.expect(Sign::Colon)?;
-        let (value, own) = self.nested(symbols, Level::Test)?;
+        let value = Held::new(self.nested(symbols, Level::Test)?);
         if symbols.sees(Sign::For) {
-            self.dict_comp(symbols, (key, depth), (value, own))
+            self.dict_comp(symbols, key, value)
         } else {
+            let (key, depth) = key.release();
+            let (value, own) = value.release();
             self.dict_of(symbols, (BarePair { key, value }, depth.max(own)))
         }
     }

@@ -2,8 +2,8 @@
 ghost use Rattle.std.specs.Prelude.{◌≡◌};
 ghost use Rattle.star_grammar.specs.Operators as spec;
 
-use star_trees::{BinOp, UnOp};
 use star_grammar::Sign;
+use star_trees::{BinOp, UnOp};
 
 /// A binary operator and its level, from the tightest.
 fn chained(what: Sign) -> Option<(usize, BinOp)>

@@ -1,15 +1,18 @@
 //! What stands behind an operand: `Primary = Operand | Primary '.' identifier | Primary '(' [Arg {',' Arg} [',']] ')' | Primary '[' Expression ']' | Primary '[' [Test] ':' [Test] [':' [Test]] ']'`.
-ghost use Rattle.std.specs.Prelude.{◌≡◌, ◌||◌, Some, None};
+ghost use Rattle.std.specs.Prelude.{◌≡◌, ◌||◌, Some, None, max};
 ghost use Rattle.star_grammar.specs.ExpressionReading as spec;
 ghost use Rattle.star_grammar.specs.ExpressionReading.{reads};
 ghost use Rattle.star_grammar.specs.Readers.{sees, turns};
+ghost use Rattle.star_grammar.specs.Rules.{deep};
+ghost use Rattle.star_grammar.specs.declared.bare_expressions.BareExpr as e;
 ghost use Rattle.star_grammar.specs.declared.symbols.Sign.TheVariants as s;
 ghost use Rattle.star_expressions.specs.Nests.{Nests};
-ghost use Rattle.star_expressions.specs.Reads.{Reads};
+ghost use Rattle.star_expressions.specs.Reads.{Finds, Reads};
 
 use crate::arg_orders::are_args;
 use crate::cursor::{Cursor, NoTree};
-use crate::grammar::{Grammar, checked, deep};
+use crate::grammar::{Grammar, HeldTree, boxed, checked, deep};
+use crate::held::Held;
 use bz_text::May;
 use sqlite_items::Boxed;
 use star_grammar::{BareExpr, Level, Sign};
@@ -21,37 +24,53 @@ fn begins_suffix(symbols: &Cursor<'_>) -> bool
     symbols.sees(Sign::Dot) || (symbols.sees(Sign::LeftRound) || symbols.sees(Sign::LeftSquare))
 }
 
+/// A bound of a slice that may be left out, with its depth, held.
+type HeldBound = Held<(Option<Boxed<BareExpr>>, usize)>;
+
+/// A slice over its parts.
+fn sliced(
+    alloc: Global,
+    of: HeldTree,
+    begin: HeldBound,
+    end: HeldBound,
+    step: HeldBound,
+) -> May<(BareExpr, usize), NoTree>
+    ensures { Finds (deep (e.Slice of.0 begin.0 end.0 step.0) (max of.1 (max begin.1 (max end.1 step.1)))) result }
+{
+    let (of, depth) = boxed(alloc, of)?;
+    let (begin, first) = begin.release();
+    let (end, second) = end.release();
+    let (step, third) = step.release();
+    let slice = BareExpr::Slice {
+        of,
+        begin,
+        end,
+        step,
+    };
+    deep(slice, depth.max(first.max(second.max(third))))
+}
+
 impl<F: Fn(Global, &mut Cursor<'_>, usize, Level) -> May<(BareExpr, usize), NoTree>> Grammar<F> {
     /// `'.' identifier`, behind the dot.
     #[tactic(auto, unfolding(star_grammar::specs::ExpressionReading::attr))]
-    fn attr(
-        &self,
-        symbols: &mut Cursor<'_>,
-        of: (BareExpr, usize),
-    ) -> May<(BareExpr, usize), NoTree>
+    fn attr(&self, symbols: &mut Cursor<'_>, of: HeldTree) -> May<(BareExpr, usize), NoTree>
         requires { Nests self.now.nesting (F.pre self.now.nested) (F.post self.now.nested) }
         ensures { Reads (spec.attr (reads self.now.nesting) of symbols.old.rest.now) result symbols.new.rest.now }
     {
-        let (of, depth) = of;
         let name = symbols.name(self.alloc)?;
-        let of = Boxed::new(self.alloc, of)?;
+        let (of, depth) = boxed(self.alloc, of)?;
         deep(BareExpr::Attr { of, name }, depth)
     }
 
     /// `'(' [Arg {',' Arg} [',']] ')'`, behind the bracket.
     #[tactic(auto, unfolding(star_grammar::specs::ExpressionReading::call))]
-    fn call(
-        &self,
-        symbols: &mut Cursor<'_>,
-        of: (BareExpr, usize),
-    ) -> May<(BareExpr, usize), NoTree>
+    fn call(&self, symbols: &mut Cursor<'_>, of: HeldTree) -> May<(BareExpr, usize), NoTree>
         requires { Nests self.now.nesting (F.pre self.now.nested) (F.post self.now.nested) }
         ensures { Reads (spec.call (reads self.now.nesting) of symbols.old.rest.now) result symbols.new.rest.now }
     {
-        let (of, depth) = of;
         let (args, own) = self.listed_args(symbols)?;
         checked(are_args(self.alloc, &args)?)?;
-        let function = Boxed::new(self.alloc, of)?;
+        let (function, depth) = boxed(self.alloc, of)?;
         deep(BareExpr::Call { function, args }, depth.max(own))
     }
 
@@ -86,26 +105,17 @@ impl<F: Fn(Global, &mut Cursor<'_>, usize, Level) -> May<(BareExpr, usize), NoTr
     fn slice(
         &self,
         symbols: &mut Cursor<'_>,
-        of: (BareExpr, usize),
-        begin: (Option<Boxed<BareExpr>>, usize),
+        of: HeldTree,
+        begin: HeldBound,
     ) -> May<(BareExpr, usize), NoTree>
         requires { Nests self.now.nesting (F.pre self.now.nested) (F.post self.now.nested) }
         ensures { Reads (spec.slice (reads self.now.nesting) of begin symbols.old.rest.now) result symbols.new.rest.now }
     {
-        let (of, depth) = of;
-        let (begin, first) = begin;
         symbols.expect(Sign::Colon)?;
-        let (end, second) = self.bound(symbols)?;
-        let (step, third) = self.step(symbols)?;
+        let end = Held::new(self.bound(symbols)?);
+        let step = Held::new(self.step(symbols)?);
         symbols.expect(Sign::RightSquare)?;
-        let of = Boxed::new(self.alloc, of)?;
-        let slice = BareExpr::Slice {
-            of,
-            begin,
-            end,
-            step,
-        };
-        deep(slice, depth.max(first.max(second.max(third))))
+        sliced(self.alloc, of, begin, end, step)
     }
 
     /// `{',' Test} ']'`, behind `[` and a Test.
@@ -113,17 +123,17 @@ impl<F: Fn(Global, &mut Cursor<'_>, usize, Level) -> May<(BareExpr, usize), NoTr
     fn index(
         &self,
         symbols: &mut Cursor<'_>,
-        of: (BareExpr, usize),
-        first: (BareExpr, usize),
+        of: HeldTree,
+        first: HeldTree,
     ) -> May<(BareExpr, usize), NoTree>
         requires { Nests self.now.nesting (F.pre self.now.nested) (F.post self.now.nested) }
         ensures { Reads (spec.index (reads self.now.nesting) of first symbols.old.rest.now) result symbols.new.rest.now }
     {
-        let (of, depth) = of;
-        let (at, own) = self.rest_of_expression(symbols, Level::Test, first)?;
+        let first = first.release();
+        let at = Held::new(self.rest_of_expression(symbols, Level::Test, first)?);
         symbols.expect(Sign::RightSquare)?;
-        let of = Boxed::new(self.alloc, of)?;
-        let at = Boxed::new(self.alloc, at)?;
+        let (of, depth) = boxed(self.alloc, of)?;
+        let (at, own) = boxed(self.alloc, at)?;
         deep(BareExpr::Index { of, at }, depth.max(own))
     }
 
@@ -131,43 +141,35 @@ impl<F: Fn(Global, &mut Cursor<'_>, usize, Level) -> May<(BareExpr, usize), NoTr
     fn begun_subscript(
         &self,
         symbols: &mut Cursor<'_>,
-        of: (BareExpr, usize),
+        of: HeldTree,
     ) -> May<(BareExpr, usize), NoTree>
         requires { Nests self.now.nesting (F.pre self.now.nested) (F.post self.now.nested) }
         ensures { Reads (spec.begun_subscript (reads self.now.nesting) of symbols.old.rest.now) result symbols.new.rest.now }
     {
-        let (first, depth) = self.nested(symbols, Level::Test)?;
+        let first = Held::new(self.nested(symbols, Level::Test)?);
         if symbols.sees(Sign::Colon) {
-            let begin = Some(Boxed::new(self.alloc, first)?);
-            self.slice(symbols, of, (begin, depth))
+            let (begin, depth) = boxed(self.alloc, first)?;
+            self.slice(symbols, of, Held::new((Some(begin), depth)))
         } else {
-            self.index(symbols, of, (first, depth))
+            self.index(symbols, of, first)
         }
     }
 
     /// What stands behind `[`.
     #[tactic(auto, unfolding(star_grammar::specs::ExpressionReading::subscript))]
-    fn subscript(
-        &self,
-        symbols: &mut Cursor<'_>,
-        of: (BareExpr, usize),
-    ) -> May<(BareExpr, usize), NoTree>
+    fn subscript(&self, symbols: &mut Cursor<'_>, of: HeldTree) -> May<(BareExpr, usize), NoTree>
         requires { Nests self.now.nesting (F.pre self.now.nested) (F.post self.now.nested) }
         ensures { Reads (spec.subscript (reads self.now.nesting) of symbols.old.rest.now) result symbols.new.rest.now }
     {
         if symbols.sees(Sign::Colon) {
-            self.slice(symbols, of, (None, 0))
+            self.slice(symbols, of, Held::new((None, 0)))
         } else {
             self.begun_subscript(symbols, of)
         }
     }
 
     #[tactic(auto, unfolding(star_grammar::specs::ExpressionReading::suffix))]
-    fn suffix(
-        &self,
-        symbols: &mut Cursor<'_>,
-        of: (BareExpr, usize),
-    ) -> May<(BareExpr, usize), NoTree>
+    fn suffix(&self, symbols: &mut Cursor<'_>, of: HeldTree) -> May<(BareExpr, usize), NoTree>
         requires { Nests self.now.nesting (F.pre self.now.nested) (F.post self.now.nested) }
         ensures { Reads (spec.suffix (reads self.now.nesting) of symbols.old.rest.now) result symbols.new.rest.now }
     {
@@ -190,14 +192,14 @@ impl<F: Fn(Global, &mut Cursor<'_>, usize, Level) -> May<(BareExpr, usize), NoTr
         requires { Nests self.now.nesting (F.pre self.now.nested) (F.post self.now.nested) }
         ensures { Reads (turns (spec.begins_suffix (reads self.now.nesting)) (spec.suffix (reads self.now.nesting)) first symbols.old.rest.now) result symbols.new.rest.now }
     {
-        let mut found = first;
+        let mut found = Held::new(first);
         'turns: for turn in 0..symbols.left() {
             if !begins_suffix(symbols) {
-                return Ok(found);
+                return Ok(found.release());
             }
-            found = self.suffix(symbols, found)?;
+            found = Held::new(self.suffix(symbols, found)?);
         }
-        Ok(found)
+        Ok(found.release())
     }
 
     #[tactic(auto, unfolding(star_grammar::specs::ExpressionReading::primary))]

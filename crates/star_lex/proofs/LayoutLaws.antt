@@ -1,4 +1,4 @@
--- Where a layout stands behind a piece.
+-- Where a layout stands behind a lexeme.
 use Rattle.std.proofs.Common.{◌≡◌, ℕ, ◌<◌, ◌≤◌, ◌+◌, ◌-◌, ◌==◌, cond, List, [], ◌∷◌, ◌++◌, length, slice_index, count_by, Option, Some, None, eqb, ltb, refl, arith, subst}
 use Rattle.std.proofs.lemmas.Bool.{cond_both}
 use Rattle.std.proofs.lemmas.List.Sums.{count_by-le-length}
@@ -6,11 +6,11 @@ use Rattle.star_lex.specs.declared.token.Token.{Token}
 use Rattle.star_lex.specs.declared.token.TokenKind.{TokenKind}
 use Rattle.star_lex.specs.declared.token.TokenKind.TheVariants.{Indent, Outdent}
 use Rattle.star_lex.specs.declared.layout.Phase.{Phase}
-use Rattle.star_lex.specs.declared.layout.Phase.TheVariants.{Fresh, Joined, Begun}
+use Rattle.star_lex.specs.declared.layout.Phase.TheVariants.{Fresh, Continued, Begun}
 use Rattle.star_lex.specs.declared.layout.Layout.{Layout}
-use Rattle.star_lex.specs.declared.pieces.Piece.{Piece}
-use Rattle.star_lex.specs.declared.pieces.Piece.TheVariants.{Gap, Remark, LineEnd, Join, Shown}
-use Rattle.star_lex.specs.Layouts.{top, outdented, closed_to, here, gapped_in, joined_in, line_ended_in, line_ended, begun, begun_in, margined, indented, shown, shown_over, moved, nested, opens, shuts, laid}
+use Rattle.star_lex.specs.declared.lexemes.Lexeme.{Lexeme}
+use Rattle.star_lex.specs.declared.lexemes.Lexeme.TheVariants.{Whitespace, Comment, LineEnd, LineContinuation, Shown}
+use Rattle.star_lex.specs.Layouts.{top, levels_at_width, with_levels, here, with_whitespace_in, with_continuation_in, with_line_end_in, with_line_end, after_indentation, after_indentation_in, after_margin, after_width, with_shown, after_shown, behind_bytes, nested, opens, shuts, layout_after}
 
 -- no more lines than bytes and no more brackets than bytes are behind a layout
 pub record IsBounded (s : Layout) : Type 0 where
@@ -24,45 +24,45 @@ abbrev StandsIn : Layout → Option Layout → Type 0
 StandsIn s None = Unit {0}
 StandsIn s (Some t) = (t.at ≡ s.at) × (t.line ≡ s.line) × (t.depth ≡ s.depth)
 
-gapped-stands : (phase : Phase) (front : List ℕ) (s : Layout) → Stands s (gapped_in phase front s)
-gapped-stands Fresh front s = (refl, refl, omega arith)
-gapped-stands Joined front s = (refl, refl, omega arith)
-gapped-stands Begun front s = (refl, refl, omega arith)
+spaced-stands : (phase : Phase) (front : List ℕ) (s : Layout) → Stands s (with_whitespace_in phase front s)
+spaced-stands Fresh front s = (refl, refl, omega arith)
+spaced-stands Continued front s = (refl, refl, omega arith)
+spaced-stands Begun front s = (refl, refl, omega arith)
 
-joined-stands : (phase : Phase) (s : Layout) → Stands s (joined_in phase s)
-joined-stands Fresh s = (refl, refl, omega arith)
-joined-stands Joined s = (refl, refl, omega arith)
-joined-stands Begun s = (refl, refl, omega arith)
+continued_line-stands : (phase : Phase) (s : Layout) → Stands s (with_continuation_in phase s)
+continued_line-stands Fresh s = (refl, refl, omega arith)
+continued_line-stands Continued s = (refl, refl, omega arith)
+continued_line-stands Begun s = (refl, refl, omega arith)
 
-line_ended_in-stands : (phase : Phase) (front : List ℕ) (s : Layout) → Stands s (line_ended_in phase front s)
-line_ended_in-stands Fresh front s = (refl, refl, omega arith)
-line_ended_in-stands Joined front s = (refl, refl, omega arith)
-line_ended_in-stands Begun front s = (refl, refl, omega arith)
+with_line_end_in-stands : (phase : Phase) (front : List ℕ) (s : Layout) → Stands s (with_line_end_in phase front s)
+with_line_end_in-stands Fresh front s = (refl, refl, omega arith)
+with_line_end_in-stands Continued front s = (refl, refl, omega arith)
+with_line_end_in-stands Begun front s = (refl, refl, omega arith)
 
-line_ended-stands : (front : List ℕ) (s : Layout) → Stands s (line_ended front s)
-line_ended-stands front s = cond_both (eqb s.depth 0) (line_ended_in s.phase front s) s (Stands s) (λ e. line_ended_in-stands s.phase front s) (λ e. (refl, refl, omega arith))
+with_line_end-stands : (front : List ℕ) (s : Layout) → Stands s (with_line_end front s)
+with_line_end-stands front s = cond_both (eqb s.depth 0) (with_line_end_in s.phase front s) s (Stands s) (λ e. with_line_end_in-stands s.phase front s) (λ e. (refl, refl, omega arith))
 
-closed_to-stands : (s : Layout) (parts : Option (List ℕ × List Token)) → StandsIn s (closed_to s parts)
-closed_to-stands s None = tt
-closed_to-stands s (Some parts) = (refl, refl, refl)
+with_levels-stands : (s : Layout) (parts : Option (List ℕ × List Token)) → StandsIn s (with_levels s parts)
+with_levels-stands s None = tt
+with_levels-stands s (Some parts) = (refl, refl, refl)
 
-indented-stands : (s : Layout) → StandsIn s (indented s)
-indented-stands s =
-    cond_both (ltb (top s.levels) s.width) (Some (record s { levels = s.width ∷ s.levels; tokens = s.tokens ++ here Indent s ∷ [] })) (closed_to s (outdented (here Outdent s) s.width s.levels s.tokens)) (StandsIn s)
+after_width-stands : (s : Layout) → StandsIn s (after_width s)
+after_width-stands s =
+    cond_both (ltb (top s.levels) s.width) (Some (record s { levels = s.width ∷ s.levels; tokens = s.tokens ++ here Indent s ∷ [] })) (with_levels s (levels_at_width (here Outdent s) s.width s.levels s.tokens)) (StandsIn s)
     (λ e. (refl, refl, refl))
-    (λ e. closed_to-stands s (outdented (here Outdent s) s.width s.levels s.tokens))
+    (λ e. with_levels-stands s (levels_at_width (here Outdent s) s.width s.levels s.tokens))
 
-margined-stands : (s : Layout) → StandsIn s (margined s)
-margined-stands s = cond_both s.tabbed None (indented s) (StandsIn s) (λ e. tt) (λ e. indented-stands s)
+after_margin-stands : (s : Layout) → StandsIn s (after_margin s)
+after_margin-stands s = cond_both s.tabbed None (after_width s) (StandsIn s) (λ e. tt) (λ e. after_width-stands s)
 
-begun_in-stands : (phase : Phase) (s : Layout) → StandsIn s (begun_in phase s)
-begun_in-stands Begun s = (refl, refl, refl)
-begun_in-stands Fresh s = margined-stands s
-begun_in-stands Joined s = margined-stands s
+after_indentation_in-stands : (phase : Phase) (s : Layout) → StandsIn s (after_indentation_in phase s)
+after_indentation_in-stands Begun s = (refl, refl, refl)
+after_indentation_in-stands Fresh s = after_margin-stands s
+after_indentation_in-stands Continued s = after_margin-stands s
 
-begun-stands : (s : Layout) → StandsIn s (begun s)
-unfolding begun
-begun-stands s = begun_in-stands s.phase s
+after_indentation-stands : (s : Layout) → StandsIn s (after_indentation s)
+unfolding after_indentation
+after_indentation-stands s = after_indentation_in-stands s.phase s
 
 nested-more : (b depth : ℕ) → nested b depth ≤ depth + 1
 nested-more b depth =
@@ -73,13 +73,13 @@ nested-more b depth =
 count-few : (front : List ℕ) → count_by (λ b. b == 10) front ≤ length front
 count-few front = count_by-le-length (λ b. b == 10) front
 
--- what a piece leads to, where it leads anywhere
+-- what a lexeme leads to, where it leads anywhere
 abbrev Moves : Layout → List ℕ → Option Layout → Type 0
 Moves s front None = Unit {0}
 Moves s front (Some t) = (t.at ≡ s.at + length front) × IsBounded t
 
-moved-moves : (front : List ℕ) (s t : Layout) → 0 < length front → IsBounded s → Stands s t → Moves s front (Some (moved front t))
-moved-moves front s t some bounded stands =
+behind_bytes-moves : (front : List ℕ) (s t : Layout) → 0 < length front → IsBounded s → Stands s t → Moves s front (Some (behind_bytes front t))
+behind_bytes-moves front s t some bounded stands =
     let at : t.at ≡ s.at = stands.0 in
     let line : t.line ≡ s.line = stands.1 in
     let depth : t.depth ≤ s.depth + 1 = stands.2 in
@@ -88,20 +88,20 @@ moved-moves front s t some bounded stands =
     let feeds : count_by (λ b. b == 10) front ≤ length front = count-few front in
     (omega arith, record { line = omega arith; depth = omega arith })
 
-shown-moves : (kind : TokenKind) (front : List ℕ) (s : Layout) (o : Option Layout) → 0 < length front → IsBounded s → StandsIn s o → Moves s front (shown_over kind front o)
-shown-moves kind front s None some bounded stands = tt
-shown-moves kind front s (Some t) some bounded stands =
+with_shown-moves : (kind : TokenKind) (front : List ℕ) (s : Layout) (o : Option Layout) → 0 < length front → IsBounded s → StandsIn s o → Moves s front (after_shown kind front o)
+with_shown-moves kind front s None some bounded stands = tt
+with_shown-moves kind front s (Some t) some bounded stands =
     let deep : nested (slice_index front 0) t.depth ≤ t.depth + 1 = nested-more (slice_index front 0) t.depth in
     let depth : t.depth ≡ s.depth = stands.2 in
-    moved-moves front s (shown kind front t) some bounded (stands.0, stands.1, omega arith)
+    behind_bytes-moves front s (with_shown kind front t) some bounded (stands.0, stands.1, omega arith)
 
-laid-moves : (piece : Piece) (front : List ℕ) (s : Layout) → 0 < length front → IsBounded s → Moves s front (laid piece front s)
-unfolding laid
-laid-moves Gap front s some bounded = moved-moves front s (gapped_in s.phase front s) some bounded (gapped-stands s.phase front s)
-laid-moves Remark front s some bounded = moved-moves front s s some bounded (refl, refl, omega arith)
-laid-moves LineEnd front s some bounded = moved-moves front s (line_ended front s) some bounded (line_ended-stands front s)
-laid-moves Join front s some bounded = moved-moves front s (joined_in s.phase s) some bounded (joined-stands s.phase s)
-laid-moves (Shown kind) front s some bounded = shown-moves kind front s (begun s) some bounded (begun-stands s)
+layout_after-moves : (lexeme : Lexeme) (front : List ℕ) (s : Layout) → 0 < length front → IsBounded s → Moves s front (layout_after lexeme front s)
+unfolding layout_after
+layout_after-moves Whitespace front s some bounded = behind_bytes-moves front s (with_whitespace_in s.phase front s) some bounded (spaced-stands s.phase front s)
+layout_after-moves Comment front s some bounded = behind_bytes-moves front s s some bounded (refl, refl, omega arith)
+layout_after-moves LineEnd front s some bounded = behind_bytes-moves front s (with_line_end front s) some bounded (with_line_end-stands front s)
+layout_after-moves LineContinuation front s some bounded = behind_bytes-moves front s (with_continuation_in s.phase s) some bounded (continued_line-stands s.phase s)
+layout_after-moves (Shown kind) front s some bounded = with_shown-moves kind front s (after_indentation s) some bounded (after_indentation-stands s)
 
-pub laid-bounded : (piece : Piece) (front : List ℕ) (s t : Layout) → 0 < length front → laid piece front s ≡ Some t → IsBounded s → (t.at ≡ s.at + length front) × IsBounded t
-laid-bounded piece front s t some e bounded = subst (λ (o : Option Layout). Moves s front o) e (laid-moves piece front s some bounded)
+pub layout_after-bounded : (lexeme : Lexeme) (front : List ℕ) (s t : Layout) → 0 < length front → layout_after lexeme front s ≡ Some t → IsBounded s → (t.at ≡ s.at + length front) × IsBounded t
+layout_after-bounded lexeme front s t some e bounded = subst (λ (o : Option Layout). Moves s front o) e (layout_after-moves lexeme front s some bounded)

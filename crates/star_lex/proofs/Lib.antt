@@ -2,11 +2,11 @@ pub mod LayoutLaws
 pub mod MarkLengths
 pub mod NameSlices
 pub mod Numbers
-pub mod PieceLaws
+pub mod LexemeLaws
 pub mod RunLengths
 pub mod ScanLaws
 pub mod SliceLaws
 pub mod StringContents
 pub mod StringItems
 pub mod TextItems
-pub mod TextPieces
+pub mod TextLexemes

@@ -6,13 +6,13 @@ use Rattle.std.proofs.lemmas.Str.{IsUtf8-from_ascii}
 use Rattle.std.specs.List.{list_all}
 use Rattle.star_lex.specs.declared.bytes.Class.{Class}
 use Rattle.star_lex.specs.declared.bytes.Class.TheVariants.{Space, Letter, Digit, Quote, Hash, Backslash, Feed, Other}
-use Rattle.star_lex.specs.declared.pieces.Piece.TheVariants.{Shown}
+use Rattle.star_lex.specs.declared.lexemes.Lexeme.TheVariants.{Shown}
 use Rattle.star_lex.specs.declared.runs.Within.TheVariants.{Word}
 use Rattle.star_lex.specs.declared.token.Token.{Token}
 use Rattle.star_lex.specs.declared.token.TokenKind.{TokenKind}
 use Rattle.star_lex.specs.declared.token.TokenKind.TheVariants.{Identifier, Newline}
 use Rattle.star_lex.specs.Bytes.{class_of}
-use Rattle.star_lex.specs.Pieces.{IsLettered, IsOfClass, IsPiece}
+use Rattle.star_lex.specs.Lexemes.{IsLettered, IsOfClass, IsLexeme}
 use Rattle.star_lex.specs.Runs.{belongs}
 use Rattle.star_lex.specs.Slices.{IsSlice, is_layout}
 use Rattle.star_lex.specs.Slices.IsSlice.{read, line_end, empty}
@@ -40,16 +40,16 @@ class-word Backslash text n one = let kind = one.kind in cc
 class-word Feed text n one = let kind = one.kind in cc
 class-word Other text n one = let kind = one.kind in cc
 
-piece-word : (text : List ℕ) (n : ℕ) → IsPiece text (Shown Identifier) n → list_all (belongs Word) (take n text) ≡ true
-unfolding IsPiece
-piece-word text n one = class-word (class_of (slice_index text 0)) text n one
+lexeme-word : (text : List ℕ) (n : ℕ) → IsLexeme text (Shown Identifier) n → list_all (belongs Word) (take n text) ≡ true
+unfolding IsLexeme
+lexeme-word text n one = class-word (class_of (slice_index text 0)) text n one
 
 -- a name is UTF-8
 pub slice-utf8 : (text : List ℕ) (token : Token) → IsSlice text token → token.kind ≡ Identifier → IsUtf8 (take (token.end - token.begin) (drop token.begin text))
-slice-utf8 text token (read piece) is =
+slice-utf8 text token (read lexeme) is =
     IsUtf8-from_ascii (take (token.end - token.begin) (drop token.begin text)) (words-ascii (take (token.end - token.begin) (drop token.begin text))
-    (piece-word (drop token.begin text) (token.end - token.begin) (subst (λ (kind : TokenKind). IsPiece (drop token.begin text) (Shown kind) (token.end - token.begin)) is piece)))
-slice-utf8 text token (line_end newline piece) is = absurd (other (sym newline ∙ is))
+    (lexeme-word (drop token.begin text) (token.end - token.begin) (subst (λ (kind : TokenKind). IsLexeme (drop token.begin text) (Shown kind) (token.end - token.begin)) is lexeme)))
+slice-utf8 text token (line_end newline lexeme) is = absurd (other (sym newline ∙ is))
   where
     other : Newline ≡ Identifier → ⊥
     other e = cc

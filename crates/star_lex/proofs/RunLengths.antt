@@ -4,14 +4,14 @@ use Rattle.std.specs.List.{list_all}
 use Rattle.std.proofs.lemmas.Bool.{and_parts, both_ways, cases_order}
 use Rattle.std.proofs.lemmas.List.{get_or_past}
 use Rattle.star_lex.specs.declared.runs.Within.{Within}
-use Rattle.star_lex.specs.declared.runs.Within.TheVariants.{Blank, Word, Comment}
+use Rattle.star_lex.specs.declared.runs.Within.TheVariants.{Blank, Word, RestOfLine}
 use Rattle.star_lex.specs.Runs.{belongs, IsRun}
 
 -- no run holds what stands behind the text's end
 pub belongs-end : (within : Within) → belongs within 0 ≡ false
 belongs-end Blank = refl
 belongs-end Word = refl
-belongs-end Comment = refl
+belongs-end RestOfLine = refl
 
 pub belongs-past : (within : Within) (text : List ℕ) (n : ℕ) → length text ≤ n → belongs within (slice_index text n) ≡ false
 belongs-past within text n h = ap (belongs within) (get_or_past text n 0 h) ∙ belongs-end within

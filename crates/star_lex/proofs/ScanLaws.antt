@@ -1,17 +1,17 @@
--- A text is read piece by piece in one way: what completes the rest completes the whole, and whatever reads the whole goes through what is out so far.
+-- A text is read lexeme by lexeme in one way: what completes the rest completes the whole, and whatever reads the whole goes through what is out so far.
 use Rattle.std.proofs.Common.{◌≡◌, ℕ, ◌<◌, ◌≤◌, ◌+◌, ◌-◌, List, [], ◌∷◌, length, take, drop, Option, Some, None, refl, arith, sym, subst, ap, ◌∙◌, IsUtf8}
 use Rattle.std.proofs.lemmas.List.{length-drop, length-take-le}
 use Rattle.star_lex.specs.declared.token.Token.{Token}
-use Rattle.star_lex.specs.declared.pieces.Piece.{Piece}
+use Rattle.star_lex.specs.declared.lexemes.Lexeme.{Lexeme}
 use Rattle.star_lex.specs.declared.layout.Layout.{Layout}
-use Rattle.star_lex.specs.Pieces.{IsPiece}
-use Rattle.star_lex.specs.Layouts.{laid, ended, start}
+use Rattle.star_lex.specs.Lexemes.{IsLexeme}
+use Rattle.star_lex.specs.Layouts.{layout_after, tokens_at_end, start}
 use Rattle.star_lex.specs.Tokens.{IsStep, LexesFrom, Lexes}
 use Rattle.star_lex.specs.Tokens.LexesFrom.{ends, goes}
-use Rattle.star_lex.proofs.PieceLaws.{IsPiece-unique, IsPiece-within}
+use Rattle.star_lex.proofs.LexemeLaws.{IsLexeme-unique, IsLexeme-within}
 use Rattle.star_lex.proofs.StringContents.{none-some}
-use Rattle.star_lex.proofs.TextPieces.{IsPiece-utf8}
-use Rattle.star_lex.proofs.LayoutLaws.{IsBounded, laid-bounded}
+use Rattle.star_lex.proofs.TextLexemes.{IsLexeme-utf8}
+use Rattle.star_lex.proofs.LayoutLaws.{IsBounded, layout_after-bounded}
 
 abbrev layout_or : Layout → Option Layout → Layout
 layout_or other None = other
@@ -22,25 +22,25 @@ some-layout s t e = ap (layout_or s) e
 
 pub IsStep-unique : (s : Layout) (text : List ℕ) (t u : Layout) (n m : ℕ) → IsStep s text t n → IsStep s text u m → (t ≡ u) × (n ≡ m)
 IsStep-unique s text t u n m one two =
-    let same = IsPiece-unique text one.piece two.piece n m one.stands two.stands in
-    let laid_so : laid one.piece (take n text) s ≡ laid two.piece (take m text) s = ap (λ (p : Piece). laid p (take n text) s) same.0 ∙ ap (λ (k : ℕ). laid two.piece (take k text) s) same.1 in
+    let same = IsLexeme-unique text one.lexeme two.lexeme n m one.stands two.stands in
+    let laid_so : layout_after one.lexeme (take n text) s ≡ layout_after two.lexeme (take m text) s = ap (λ (p : Lexeme). layout_after p (take n text) s) same.0 ∙ ap (λ (k : ℕ). layout_after two.lexeme (take k text) s) same.1 in
     (some-layout t u (sym one.laid_out ∙ (laid_so ∙ two.laid_out)), same.1)
 
--- a piece that cannot be laid is no step
-pub IsStep-unlaid : (s : Layout) (text : List ℕ) (piece : Piece) (size : ℕ) → IsPiece text piece size → laid piece (take size text) s ≡ None → (t : Layout) (n : ℕ) → IsStep s text t n → ⊥
-IsStep-unlaid s text piece size stands none t n step =
-    let same = IsPiece-unique text piece step.piece size n stands step.stands in
-    let laid_so : laid step.piece (take n text) s ≡ laid piece (take size text) s = ap (λ (p : Piece). laid p (take n text) s) (sym same.0) ∙ ap (λ (k : ℕ). laid piece (take k text) s) (sym same.1) in
-    none-some t (laid step.piece (take n text) s) (laid_so ∙ none) step.laid_out
+-- a lexeme that cannot be laid is no step
+pub IsStep-unlaid : (s : Layout) (text : List ℕ) (lexeme : Lexeme) (size : ℕ) → IsLexeme text lexeme size → layout_after lexeme (take size text) s ≡ None → (t : Layout) (n : ℕ) → IsStep s text t n → ⊥
+IsStep-unlaid s text lexeme size stands none t n step =
+    let same = IsLexeme-unique text lexeme step.lexeme size n stands step.stands in
+    let laid_so : layout_after step.lexeme (take n text) s ≡ layout_after lexeme (take size text) s = ap (λ (p : Lexeme). layout_after p (take n text) s) (sym same.0) ∙ ap (λ (k : ℕ). layout_after lexeme (take k text) s) (sym same.1) in
+    none-some t (layout_after step.lexeme (take n text) s) (laid_so ∙ none) step.laid_out
 
-pub IsStep-no_piece : (s : Layout) (text : List ℕ) → ((piece : Piece) (n : ℕ) → IsPiece text piece n → ⊥) → (t : Layout) (n : ℕ) → IsStep s text t n → ⊥
-IsStep-no_piece s text none t n step = none step.piece n step.stands
+pub IsStep-no_lexeme : (s : Layout) (text : List ℕ) → ((lexeme : Lexeme) (n : ℕ) → IsLexeme text lexeme n → ⊥) → (t : Layout) (n : ℕ) → IsStep s text t n → ⊥
+IsStep-no_lexeme s text none t n step = none step.lexeme n step.stands
 
 pub IsStep-within : (s : Layout) (text : List ℕ) (t : Layout) (n : ℕ) → IsStep s text t n → (0 < n) × (n ≤ length text)
-IsStep-within s text t n step = IsPiece-within text step.piece n step.stands
+IsStep-within s text t n step = IsLexeme-within text step.lexeme n step.stands
 
 -- the tokens at the end are those of the layout
-LexesFrom-ended : (s : Layout) (text : List ℕ) (tokens : List Token) → length text ≡ 0 → LexesFrom s text tokens → tokens ≡ ended s
+LexesFrom-ended : (s : Layout) (text : List ℕ) (tokens : List Token) → length text ≡ 0 → LexesFrom s text tokens → tokens ≡ tokens_at_end s
 LexesFrom-ended s text tokens none (ends _) = refl
 LexesFrom-ended s text tokens none (goes _ t _ n _ step more) = let inside = IsStep-within s text t n step in absurd (omega arith)
 
@@ -77,19 +77,19 @@ Scans-step whole s rest t n so_far step =
     let inside = IsStep-within s rest t n step in
     let front : length (take n rest) ≡ n = length-take-le n rest inside.1 in
     let shorter : length (drop n rest) ≡ length rest - n = length-drop n rest in
-    let next = laid-bounded step.piece (take n rest) s t (omega arith) step.laid_out so_far.bounded in
+    let next = layout_after-bounded step.lexeme (take n rest) s t (omega arith) step.laid_out so_far.bounded in
     let moved_so : t.at ≡ s.at + length (take n rest) = next.0 in
     let placed : s.at + length rest ≡ length whole = so_far.placed in
     record {
       placed = omega arith;
       bounded = next.1;
-      utf8 = IsPiece-utf8 rest step.piece n so_far.utf8 step.stands;
+      utf8 = IsLexeme-utf8 rest step.lexeme n so_far.utf8 step.stands;
       completes = λ tokens lexes. so_far.completes tokens (goes s t rest n tokens step lexes);
       only = λ tokens lexes. LexesFrom-gone s rest t n tokens step (so_far.only tokens lexes);
     }
 
-pub Scans-ended : (whole : List ℕ) (s : Layout) (rest : List ℕ) → Scans whole s rest → length rest ≡ 0 → Lexes whole (ended s)
-Scans-ended whole s [] so_far none = so_far.completes (ended s) (ends s)
+pub Scans-ended : (whole : List ℕ) (s : Layout) (rest : List ℕ) → Scans whole s rest → length rest ≡ 0 → Lexes whole (tokens_at_end s)
+Scans-ended whole s [] so_far none = so_far.completes (tokens_at_end s) (ends s)
 Scans-ended whole s (b ∷ rest) so_far none = absurd (omega arith)
 
 pub Scans-stuck : (whole : List ℕ) (s : Layout) (rest : List ℕ) → Scans whole s rest → 0 < length rest → ((t : Layout) (n : ℕ) → IsStep s rest t n → ⊥) → (tokens : List Token) → Lexes whole tokens → ⊥

@@ -3,7 +3,7 @@ pub mod Bytes
 pub mod Integers
 pub mod Layouts
 pub mod Marks
-pub mod Pieces
+pub mod Lexemes
 pub mod Runs
 pub mod Slices
 pub mod Strings

@@ -4,7 +4,7 @@ use Rattle.std.specs.List.{list_all}
 use Rattle.star_lex.specs.declared.bytes.Class.{Class}
 use Rattle.star_lex.specs.declared.bytes.Class.TheVariants.{Space, Letter, Digit}
 use Rattle.star_lex.specs.declared.runs.Within.{Within}
-use Rattle.star_lex.specs.declared.runs.Within.TheVariants.{Blank, Word, Comment}
+use Rattle.star_lex.specs.declared.runs.Within.TheVariants.{Blank, Word, RestOfLine}
 use Rattle.star_lex.specs.Bytes.{class_of, is_visible}
 
 abbrev pub is_blank_class : Class → Bool
@@ -20,7 +20,7 @@ is_word_class _ = false
 abbrev pub belongs : Within → ℕ → Bool
 belongs Blank b = is_blank_class (class_of b)
 belongs Word b = is_word_class (class_of b)
-belongs Comment b = is_visible b && not (b == 10)
+belongs RestOfLine b = is_visible b && not (b == 10)
 
 -- the first n bytes belong to the run, and the byte behind them doesn't, or the text ends there
 pub record IsRun (test : ℕ → Bool) (text : List ℕ) (n : ℕ) : Type 0 where

@@ -1,15 +1,15 @@
-//! Lines, indentation and brackets. A layout takes one piece after another and keeps the tokens so far, where it stands, the open levels and brackets, and what it knows of the line.
+//! Lines, indentation and brackets. A layout takes one lexeme after another and keeps the tokens so far, where it stands, the open levels and brackets, and what it knows of the line.
 ghost use Rattle.std.specs.Prelude.{◌≡◌, ◌==◌, ◌≤◌, ◌<◌, ◌+◌, ◌^◌, ◌++◌, [], ◌∷◌, length, map, slice_index, slice_get, count_by, IfOk, OnOk, Some, None, ◌-◌};
 ghost use Rattle.std.specs.List.{list_any};
 ghost use Rattle.star_lex.specs.Answers.{Answers};
-ghost use Rattle.star_lex.specs.Layouts.{begun, closed_to, ended, IsPlaced, gapped_in, here, indented, is_newline, joined_in, lacks_newline, laid, line_ended, line_ended_in, margined, moved, nested, newline_ended, next_line, outdented, over, shown, shown_over, start, with_token};
-ghost use Rattle.star_lex.specs.declared.pieces.Piece.TheVariants.{Gap, Join, LineEnd, Remark, Shown};
+ghost use Rattle.star_lex.specs.Layouts.{after_indentation, with_levels, tokens_at_end, IsPlaced, with_whitespace_in, here, after_width, is_newline, with_continuation_in, lacks_newline, layout_after, with_line_end, with_line_end_in, after_margin, behind_bytes, nested, with_last_newline, next_line, levels_at_width, over, with_shown, after_shown, start, with_token};
+ghost use Rattle.star_lex.specs.declared.lexemes.Lexeme.TheVariants.{Whitespace, LineContinuation, LineEnd, Comment, Shown};
 ghost use Rattle.star_lex.specs.declared.token.TokenKind.TheVariants.{Indent, Newline, Outdent};
 
 use crate::bytes::byte_at;
 use crate::levels::Levels;
-use crate::pieces::Piece;
-use crate::token::{NoPiece, Token, TokenKind};
+use crate::lexemes::Lexeme;
+use crate::token::{NoLexeme, Token, TokenKind};
 use bz_text::{May, Mem, Miss, OutOfMemory, Seq};
 use std::alloc::Global;
 
@@ -17,11 +17,11 @@ use std::alloc::Global;
 #[derive(Clone, Copy, Debug, PartialEq, Eq)]
 pub(crate) enum Phase {
     Fresh,
-    Joined,
+    Continued,
     Begun,
 }
 
-/// The tokens so far and what the next piece's meaning hangs on. `width` and `tabbed` tell of the blanks at the line's beginning.
+/// The tokens so far and what the next lexeme's meaning hangs on. `width` and `tabbed` tell of the blanks at the line's beginning.
 #[derive(Debug, Drop)]
 pub(crate) struct Layout {
     pub(crate) tokens: Seq<Token>,
@@ -124,8 +124,8 @@ impl Layout {
     }
 
     /// Closes the levels above the line's width.
-    fn outdent(&mut self) -> May<(), NoPiece>
-        ensures exact { Answers (λ _. closed_to self.old (outdented (here Outdent self.old) self.old.width self.old.levels self.old.tokens) ≡ Some self.new) (closed_to self.old (outdented (here Outdent self.old) self.old.width self.old.levels self.old.tokens) ≡ None) result }
+    fn outdent(&mut self) -> May<(), NoLexeme>
+        ensures exact { Answers (λ _. with_levels self.old (levels_at_width (here Outdent self.old) self.old.width self.old.levels self.old.tokens) ≡ Some self.new) (with_levels self.old (levels_at_width (here Outdent self.old) self.old.width self.old.levels self.old.tokens) ≡ None) result }
         ensures placed { OnOk result (IsPlaced self.old self.new) }
     {
         'levels: while self.width < self.levels.top() {
@@ -136,7 +136,7 @@ impl Layout {
         if self.width == self.levels.top() {
             Ok(())
         } else {
-            Err(Miss::Because(NoPiece))
+            Err(Miss::Because(NoLexeme))
         }
     }
 
@@ -148,8 +148,8 @@ impl Layout {
         self.levels.open(self.width)
     }
 
-    fn read_indentation(&mut self) -> May<(), NoPiece>
-        ensures exact { Answers (λ _. indented self.old ≡ Some self.new) (indented self.old ≡ None) result }
+    fn read_indentation(&mut self) -> May<(), NoLexeme>
+        ensures exact { Answers (λ _. after_width self.old ≡ Some self.new) (after_width self.old ≡ None) result }
         ensures placed { OnOk result (IsPlaced self.old self.new) }
     {
         if self.levels.top() < self.width {
@@ -161,33 +161,33 @@ impl Layout {
         self.outdent()
     }
 
-    fn read_margin(&mut self) -> May<(), NoPiece>
-        ensures exact { Answers (λ _. margined self.old ≡ Some self.new) (margined self.old ≡ None) result }
+    fn read_margin(&mut self) -> May<(), NoLexeme>
+        ensures exact { Answers (λ _. after_margin self.old ≡ Some self.new) (after_margin self.old ≡ None) result }
         ensures placed { OnOk result (IsPlaced self.old self.new) }
     {
         if self.tabbed {
-            return Err(Miss::Because(NoPiece));
+            return Err(Miss::Because(NoLexeme));
         }
         self.read_indentation()
     }
 
     /// Reads the indentation before a line's first token.
-    #[tactic(auto, unfolding(crate::specs::Layouts::begun))]
-    fn begin(&mut self) -> May<(), NoPiece>
-        ensures exact { Answers (λ _. begun self.old ≡ Some self.new) (begun self.old ≡ None) result }
+    #[tactic(auto, unfolding(crate::specs::Layouts::after_indentation))]
+    fn begin(&mut self) -> May<(), NoLexeme>
+        ensures exact { Answers (λ _. after_indentation self.old ≡ Some self.new) (after_indentation self.old ≡ None) result }
         ensures placed { OnOk result (IsPlaced self.old self.new) }
     {
         match self.phase {
             Phase::Begun => Ok(()),
             Phase::Fresh => self.read_margin(),
-            Phase::Joined => self.read_margin(),
+            Phase::Continued => self.read_margin(),
         }
     }
 
     fn move_over(&mut self, front: &[u8])
         requires room { self.old.at + length front.now < 2 ^ 63 }
         requires lined { self.old.line ≤ self.old.at + 1 }
-        ensures { self.new ≡ moved front.now self.old }
+        ensures { self.new ≡ behind_bytes front.now self.old }
     {
         self.at += front.len() as u64;
         self.line += line_feeds(front);
@@ -196,7 +196,7 @@ impl Layout {
     fn show(&mut self, kind: TokenKind, front: &[u8]) -> Mem<()>
         requires room { self.old.at + length front.now < 2 ^ 63 }
         requires nested { self.old.depth ≤ self.old.at }
-        ensures exact { OnOk result (self.new ≡ shown kind front.now self.old) }
+        ensures exact { OnOk result (self.new ≡ with_shown kind front.now self.old) }
         ensures placed { OnOk result ((self.new.at ≡ self.old.at) × (self.new.line ≡ self.old.line)) }
     {
         let token = self.over(kind, front);
@@ -206,8 +206,8 @@ impl Layout {
         Ok(())
     }
 
-    fn take_gap(&mut self, front: &[u8])
-        ensures exact { self.new ≡ gapped_in self.old.phase front.now self.old }
+    fn take_whitespace(&mut self, front: &[u8])
+        ensures exact { self.new ≡ with_whitespace_in self.old.phase front.now self.old }
         ensures placed { IsPlaced self.old self.new }
     {
         match self.phase {
@@ -215,18 +215,18 @@ impl Layout {
                 self.width = front.len() as u64;
                 self.tabbed = has_tab(front);
             }
-            Phase::Joined => {}
+            Phase::Continued => {}
             Phase::Begun => {}
         }
     }
 
-    fn take_join(&mut self)
-        ensures exact { self.new ≡ joined_in self.old.phase self.old }
+    fn take_line_continuation(&mut self)
+        ensures exact { self.new ≡ with_continuation_in self.old.phase self.old }
         ensures placed { IsPlaced self.old self.new }
     {
         match self.phase {
-            Phase::Fresh => self.phase = Phase::Joined,
-            Phase::Joined => {}
+            Phase::Fresh => self.phase = Phase::Continued,
+            Phase::Continued => {}
             Phase::Begun => {}
         }
     }
@@ -242,7 +242,7 @@ impl Layout {
 
     fn end_line(&mut self, front: &[u8]) -> Mem<()>
         requires room { self.old.at + length front.now < 2 ^ 63 }
-        ensures exact { OnOk result (self.new ≡ line_ended_in self.old.phase front.now self.old) }
+        ensures exact { OnOk result (self.new ≡ with_line_end_in self.old.phase front.now self.old) }
         ensures placed { OnOk result (IsPlaced self.old self.new) }
     {
         match self.phase {
@@ -252,14 +252,14 @@ impl Layout {
                 self.start_line();
             }
             Phase::Fresh => self.start_line(),
-            Phase::Joined => self.start_line(),
+            Phase::Continued => self.start_line(),
         }
         Ok(())
     }
 
     fn take_line_end(&mut self, front: &[u8]) -> Mem<()>
         requires room { self.old.at + length front.now < 2 ^ 63 }
-        ensures exact { OnOk result (self.new ≡ line_ended front.now self.old) }
+        ensures exact { OnOk result (self.new ≡ with_line_end front.now self.old) }
         ensures placed { OnOk result (IsPlaced self.old self.new) }
     {
         if self.depth == 0 {
@@ -268,28 +268,28 @@ impl Layout {
         Ok(())
     }
 
-    fn lay_gap(&mut self, front: &[u8])
+    fn lay_whitespace(&mut self, front: &[u8])
         requires room { self.old.at + length front.now < 2 ^ 63 }
         requires lined { self.old.line ≤ self.old.at + 1 }
-        ensures { self.new ≡ moved front.now (gapped_in self.old.phase front.now self.old) }
+        ensures { self.new ≡ behind_bytes front.now (with_whitespace_in self.old.phase front.now self.old) }
     {
-        self.take_gap(front);
+        self.take_whitespace(front);
         self.move_over(front);
     }
 
-    fn lay_join(&mut self, front: &[u8])
+    fn lay_line_continuation(&mut self, front: &[u8])
         requires room { self.old.at + length front.now < 2 ^ 63 }
         requires lined { self.old.line ≤ self.old.at + 1 }
-        ensures { self.new ≡ moved front.now (joined_in self.old.phase self.old) }
+        ensures { self.new ≡ behind_bytes front.now (with_continuation_in self.old.phase self.old) }
     {
-        self.take_join();
+        self.take_line_continuation();
         self.move_over(front);
     }
 
     fn lay_line_end(&mut self, front: &[u8]) -> Mem<()>
         requires room { self.old.at + length front.now < 2 ^ 63 }
         requires lined { self.old.line ≤ self.old.at + 1 }
-        ensures { OnOk result (self.new ≡ moved front.now (line_ended front.now self.old)) }
+        ensures { OnOk result (self.new ≡ behind_bytes front.now (with_line_end front.now self.old)) }
     {
         self.take_line_end(front)?;
         self.move_over(front);
@@ -300,18 +300,18 @@ impl Layout {
         requires room { self.old.at + length front.now < 2 ^ 63 }
         requires lined { self.old.line ≤ self.old.at + 1 }
         requires nested { self.old.depth ≤ self.old.at }
-        ensures { OnOk result (self.new ≡ moved front.now (shown kind front.now self.old)) }
+        ensures { OnOk result (self.new ≡ behind_bytes front.now (with_shown kind front.now self.old)) }
     {
         self.show(kind, front)?;
         self.move_over(front);
         Ok(())
     }
 
-    fn lay_token(&mut self, kind: TokenKind, front: &[u8]) -> May<(), NoPiece>
+    fn lay_token(&mut self, kind: TokenKind, front: &[u8]) -> May<(), NoLexeme>
         requires room { self.old.at + length front.now < 2 ^ 63 }
         requires lined { self.old.line ≤ self.old.at + 1 }
         requires nested { self.old.depth ≤ self.old.at }
-        ensures { Answers (λ _. shown_over kind front.now (begun self.old) ≡ Some self.new) (shown_over kind front.now (begun self.old) ≡ None) result }
+        ensures { Answers (λ _. after_shown kind front.now (after_indentation self.old) ≡ Some self.new) (after_shown kind front.now (after_indentation self.old) ≡ None) result }
     {
         match self.begin() {
             Ok(()) => Ok(self.lay_shown(kind, front)?),
@@ -319,20 +319,20 @@ impl Layout {
         }
     }
 
-    /// Lays one more piece, whose bytes these are.
-    #[tactic(auto, unfolding(crate::specs::Layouts::laid))]
-    pub(crate) fn lay(&mut self, piece: Piece, front: &[u8]) -> May<(), NoPiece>
+    /// Lays one more lexeme, whose bytes these are.
+    #[tactic(auto, unfolding(crate::specs::Layouts::layout_after))]
+    pub(crate) fn lay(&mut self, lexeme: Lexeme, front: &[u8]) -> May<(), NoLexeme>
         requires room { self.old.at + length front.now < 2 ^ 63 }
         requires lined { self.old.line ≤ self.old.at + 1 }
         requires nested { self.old.depth ≤ self.old.at }
-        ensures { Answers (λ _. laid piece front.now self.old ≡ Some self.new) (laid piece front.now self.old ≡ None) result }
+        ensures { Answers (λ _. layout_after lexeme front.now self.old ≡ Some self.new) (layout_after lexeme front.now self.old ≡ None) result }
     {
-        match piece {
-            Piece::Gap => self.lay_gap(front),
-            Piece::Remark => self.move_over(front),
-            Piece::LineEnd => self.lay_line_end(front)?,
-            Piece::Join => self.lay_join(front),
-            Piece::Shown(kind) => return self.lay_token(kind, front),
+        match lexeme {
+            Lexeme::Whitespace => self.lay_whitespace(front),
+            Lexeme::Comment => self.move_over(front),
+            Lexeme::LineEnd => self.lay_line_end(front)?,
+            Lexeme::LineContinuation => self.lay_line_continuation(front),
+            Lexeme::Shown(kind) => return self.lay_token(kind, front),
         }
         Ok(())
     }
@@ -347,7 +347,7 @@ impl Layout {
     }
 
     fn end_last_line(&mut self) -> Mem<()>
-        ensures { OnOk result (self.new ≡ record self.old { tokens = newline_ended self.old }) }
+        ensures { OnOk result (self.new ≡ record self.old { tokens = with_last_newline self.old }) }
     {
         if self.lacks_newline() {
             let token = self.here(TokenKind::Newline);
@@ -368,9 +368,9 @@ impl Layout {
     }
 
     /// The tokens at the text's end.
-    #[tactic(auto, unfolding(crate::specs::Layouts::ended))]
+    #[tactic(auto, unfolding(crate::specs::Layouts::tokens_at_end))]
     pub(crate) fn end(self) -> Mem<Seq<Token>>
-        ensures { IfOk result (λ tokens. tokens ≡ ended self) }
+        ensures { IfOk result (λ tokens. tokens ≡ tokens_at_end self) }
     {
         let mut layout = self;
         layout.end_last_line()?;

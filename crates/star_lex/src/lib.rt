@@ -6,14 +6,12 @@ mod integers;
 pub mod laws;
 mod layout;
 mod levels;
+mod lexemes;
 mod marks;
-mod pieces;
 mod runs;
 mod scan;
 mod strings;
 pub mod token;
-#[cfg(test)]
-mod token_table;
 mod words;
 
 pub use scan::tokens;

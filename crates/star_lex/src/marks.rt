@@ -3,58 +3,58 @@ ghost use Rattle.std.specs.Prelude.{◌≡◌, ◌≤◌, ℕ, length, take, tru
 ghost use Rattle.std.specs.List.{list_any};
 ghost use Rattle.star_lex.specs.Marks.{double_marks, is_mark, IsLongestMark, single_marks, triple_marks};
 
-use crate::words::same;
+use bz_text::same_bytes;
 
 fn is_single(text: &[u8]) -> bool
     ensures { result ≡ list_any (bytes_eq text.now) single_marks }
 {
-    same(text, b"+")
-        || same(text, b"-")
-        || same(text, b"*")
-        || same(text, b"%")
-        || same(text, b"~")
-        || same(text, b"&")
-        || same(text, b"|")
-        || same(text, b"^")
-        || same(text, b".")
-        || same(text, b",")
-        || same(text, b"=")
-        || same(text, b";")
-        || same(text, b":")
-        || same(text, b"(")
-        || same(text, b")")
-        || same(text, b"[")
-        || same(text, b"]")
-        || same(text, b"{")
-        || same(text, b"}")
-        || same(text, b"<")
-        || same(text, b">")
+    same_bytes(text, b"+")
+        || same_bytes(text, b"-")
+        || same_bytes(text, b"*")
+        || same_bytes(text, b"%")
+        || same_bytes(text, b"~")
+        || same_bytes(text, b"&")
+        || same_bytes(text, b"|")
+        || same_bytes(text, b"^")
+        || same_bytes(text, b".")
+        || same_bytes(text, b",")
+        || same_bytes(text, b"=")
+        || same_bytes(text, b";")
+        || same_bytes(text, b":")
+        || same_bytes(text, b"(")
+        || same_bytes(text, b")")
+        || same_bytes(text, b"[")
+        || same_bytes(text, b"]")
+        || same_bytes(text, b"{")
+        || same_bytes(text, b"}")
+        || same_bytes(text, b"<")
+        || same_bytes(text, b">")
 }
 
 fn is_double(text: &[u8]) -> bool
     ensures { result ≡ list_any (bytes_eq text.now) double_marks }
 {
-    same(text, b"//")
-        || same(text, b"**")
-        || same(text, b"<<")
-        || same(text, b">>")
-        || same(text, b">=")
-        || same(text, b"<=")
-        || same(text, b"==")
-        || same(text, b"!=")
-        || same(text, b"+=")
-        || same(text, b"-=")
-        || same(text, b"*=")
-        || same(text, b"%=")
-        || same(text, b"&=")
-        || same(text, b"|=")
-        || same(text, b"^=")
+    same_bytes(text, b"//")
+        || same_bytes(text, b"**")
+        || same_bytes(text, b"<<")
+        || same_bytes(text, b">>")
+        || same_bytes(text, b">=")
+        || same_bytes(text, b"<=")
+        || same_bytes(text, b"==")
+        || same_bytes(text, b"!=")
+        || same_bytes(text, b"+=")
+        || same_bytes(text, b"-=")
+        || same_bytes(text, b"*=")
+        || same_bytes(text, b"%=")
+        || same_bytes(text, b"&=")
+        || same_bytes(text, b"|=")
+        || same_bytes(text, b"^=")
 }
 
 fn is_triple(text: &[u8]) -> bool
     ensures { result ≡ list_any (bytes_eq text.now) triple_marks }
 {
-    same(text, b"//=") || same(text, b"<<=") || same(text, b">>=")
+    same_bytes(text, b"//=") || same_bytes(text, b"<<=") || same_bytes(text, b">>=")
 }
 
 #[tactic(auto, unfolding(crate::specs::Marks::is_mark))]

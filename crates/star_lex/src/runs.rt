@@ -9,7 +9,7 @@ use crate::bytes::{Class, class_of, is_visible};
 pub enum Within {
     Blank,
     Word,
-    Comment,
+    RestOfLine,
 }
 
 fn is_blank(class: Class) -> bool
@@ -36,7 +36,7 @@ fn belongs(within: Within, byte: u8) -> bool
     match within {
         Within::Blank => is_blank(class_of(byte)),
         Within::Word => is_word(class_of(byte)),
-        Within::Comment => is_visible(byte) && !(byte == b'\n'),
+        Within::RestOfLine => is_visible(byte) && !(byte == b'\n'),
     }
 }
 

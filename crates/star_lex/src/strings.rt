@@ -7,7 +7,7 @@ ghost use Rattle.star_lex.specs.Strings.{bytes_of, closes, Contents, IsString, e
 
 use crate::bytes::{byte_at, is_visible, line_end};
 use crate::integers::number;
-use crate::token::NoPiece;
+use crate::token::NoLexeme;
 use bz_text::{May, Mem, Miss, Txt};
 use std::alloc::Global;
 
@@ -291,7 +291,7 @@ fn push_character(alloc: Global, value: &mut Vec<u8>, character: char) -> Mem<()
 }
 
 /// The value of the items up to the quotes at the end, and the length of both.
-fn contents(alloc: Global, style: Style, text: &[u8]) -> May<(Vec<u8>, usize), NoPiece>
+fn contents(alloc: Global, style: Style, text: &[u8]) -> May<(Vec<u8>, usize), NoLexeme>
     requires { 0 < style.quote }
     ensures { Answers (λ found. Contents style text.now found.0.items found.1) ((value : List ℕ) (n : ℕ) → Contents style text.now value n → ⊥) result }
 {
@@ -299,7 +299,7 @@ fn contents(alloc: Global, style: Style, text: &[u8]) -> May<(Vec<u8>, usize), N
     let mut rest = text;
     'items: while !closes(style, rest) {
         match item(style, rest) {
-            None => return Err(Miss::Because(NoPiece)),
+            None => return Err(Miss::Because(NoLexeme)),
             Some((meaning, size)) => {
                 push_meaning(alloc, &mut value, meaning)?;
                 rest = behind(rest, size);
@@ -328,7 +328,7 @@ fn opening(text: &[u8]) -> usize
 }
 
 /// The value of the string at the front, and its length.
-pub(crate) fn string(alloc: Global, text: &[u8]) -> May<(Txt, usize), NoPiece>
+pub(crate) fn string(alloc: Global, text: &[u8]) -> May<(Txt, usize), NoLexeme>
     requires some { 0 < slice_index text.now (prefix text.now) }
     requires ascii { slice_index text.now (prefix text.now) < 128 }
     requires utf8 { IsUtf8 text.now }

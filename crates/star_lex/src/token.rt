@@ -32,4 +32,4 @@ pub struct LexFault {
 
 /// Nothing of the lexis stands there.
 #[derive(Clone, Copy, Debug, PartialEq, Eq)]
-pub(crate) struct NoPiece;
+pub(crate) struct NoLexeme;

@@ -1,55 +1,49 @@
 //! What a word is.
-ghost use Rattle.std.specs.Prelude.{◌≡◌, bytes_eq};
+ghost use Rattle.std.specs.Prelude.{◌≡◌};
 ghost use Rattle.star_lex.specs.Words.{is_keyword, is_reserved, word_kind};
 
 use crate::token::TokenKind;
-
-/// Whether two texts have the same bytes.
-pub(crate) fn same(one: &[u8], other: &[u8]) -> bool
-    ensures { result ≡ bytes_eq one.now other.now }
-{
-    one == other
-}
+use bz_text::same_bytes;
 
 fn is_keyword(word: &[u8]) -> bool
     ensures { result ≡ is_keyword word.now }
 {
-    same(word, b"and")
-        || same(word, b"break")
-        || same(word, b"continue")
-        || same(word, b"def")
-        || same(word, b"elif")
-        || same(word, b"else")
-        || same(word, b"for")
-        || same(word, b"if")
-        || same(word, b"in")
-        || same(word, b"lambda")
-        || same(word, b"load")
-        || same(word, b"not")
-        || same(word, b"or")
-        || same(word, b"pass")
-        || same(word, b"return")
+    same_bytes(word, b"and")
+        || same_bytes(word, b"break")
+        || same_bytes(word, b"continue")
+        || same_bytes(word, b"def")
+        || same_bytes(word, b"elif")
+        || same_bytes(word, b"else")
+        || same_bytes(word, b"for")
+        || same_bytes(word, b"if")
+        || same_bytes(word, b"in")
+        || same_bytes(word, b"lambda")
+        || same_bytes(word, b"load")
+        || same_bytes(word, b"not")
+        || same_bytes(word, b"or")
+        || same_bytes(word, b"pass")
+        || same_bytes(word, b"return")
 }
 
 fn is_reserved(word: &[u8]) -> bool
     ensures { result ≡ is_reserved word.now }
 {
-    same(word, b"as")
-        || same(word, b"assert")
-        || same(word, b"class")
-        || same(word, b"del")
-        || same(word, b"except")
-        || same(word, b"finally")
-        || same(word, b"from")
-        || same(word, b"global")
-        || same(word, b"import")
-        || same(word, b"is")
-        || same(word, b"nonlocal")
-        || same(word, b"raise")
-        || same(word, b"try")
-        || same(word, b"while")
-        || same(word, b"with")
-        || same(word, b"yield")
+    same_bytes(word, b"as")
+        || same_bytes(word, b"assert")
+        || same_bytes(word, b"class")
+        || same_bytes(word, b"del")
+        || same_bytes(word, b"except")
+        || same_bytes(word, b"finally")
+        || same_bytes(word, b"from")
+        || same_bytes(word, b"global")
+        || same_bytes(word, b"import")
+        || same_bytes(word, b"is")
+        || same_bytes(word, b"nonlocal")
+        || same_bytes(word, b"raise")
+        || same_bytes(word, b"try")
+        || same_bytes(word, b"while")
+        || same_bytes(word, b"with")
+        || same_bytes(word, b"yield")
 }
 
 #[tactic(auto, unfolding(crate::specs::Words::word_kind))]

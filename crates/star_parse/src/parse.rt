@@ -3,16 +3,16 @@ ghost use Rattle.std.specs.Prelude.{◌≡◌, IfOk};
 ghost use Rattle.bz_text.specs.Answers.{Gives};
 ghost use Rattle.star_trees.specs.WellFormed.{WellFormed};
 ghost use Rattle.star_grammar.specs.Texts.{Spelled};
-ghost use Rattle.star_parse.specs.Parses.{Parses, first_form, meant, named};
+ghost use Rattle.star_parse.specs.Parses.{Parses, first_form, meaning_in, file_or_unbound};
 ghost use Rattle.star_scopes.specs.Files.{resolved};
 ghost use Rattle.star_scopes.specs.declared.dialects.Dialect.TheVariants as dialect;
 
 use bz_text::{May, Mem, Miss, Txt};
-use star_trees::File;
 use star_dialects::{Refused, refused_in_bzl, refused_in_module};
 use star_grammar::BareStmt;
 use star_scopes::{Dialect, Unbound, resolved};
 use star_statements::{TreeFault, tree};
+use star_trees::File;
 use std::alloc::Global;
 
 /// Why a text is no file of its dialect. The hint is the line to look at; `form` is the form that is refused.
@@ -25,7 +25,6 @@ pub enum ParseFault {
 }
 
 /// An extension's or a rule's file. It is well formed: an evaluation may rest on its places, variables and depth.
-#[tactic(auto, using(crate::proofs::WellFormed::parses_well_formed))]
 pub fn parse_bzl(alloc: Global, text: &str) -> May<File, ParseFault>
     ensures parses { Parses dialect.Extension text.now result }
     ensures well_formed { IfOk result WellFormed }
@@ -34,7 +33,6 @@ pub fn parse_bzl(alloc: Global, text: &str) -> May<File, ParseFault>
 }
 
 /// A module's file. It is well formed: an evaluation may rest on its places, variables and depth.
-#[tactic(auto, using(crate::proofs::WellFormed::parses_well_formed))]
 pub fn parse_module(alloc: Global, text: &str) -> May<File, ParseFault>
     ensures parses { Parses dialect.Module text.now result }
     ensures well_formed { IfOk result WellFormed }
@@ -46,7 +44,7 @@ fn parsed(alloc: Global, dialect: Dialect, text: &str) -> May<File, ParseFault>
     ensures { Parses dialect text.now result }
 {
     match tree(alloc, text) {
-        Ok(tree) => told(alloc, dialect, tree.body.as_slice()),
+        Ok(tree) => file_of_tree(alloc, dialect, tree.body.as_slice()),
         Err(Miss::Because(TreeFault::Lex { hint })) => {
             Err(Miss::Because(ParseFault::Lex { hint }))
         }
@@ -58,8 +56,8 @@ fn parsed(alloc: Global, dialect: Dialect, text: &str) -> May<File, ParseFault>
 }
 
 /// What a tree is in a dialect.
-fn told(alloc: Global, dialect: Dialect, body: &[BareStmt]) -> May<File, ParseFault>
-    ensures { Gives (meant dialect body.now) result }
+fn file_of_tree(alloc: Global, dialect: Dialect, body: &[BareStmt]) -> May<File, ParseFault>
+    ensures { Gives (meaning_in dialect body.now) result }
 {
     match refused(alloc, dialect, body)? {
         Some(refused) => Err(Miss::Because(ParseFault::Dialect {
@@ -82,7 +80,7 @@ fn refused(alloc: Global, dialect: Dialect, body: &[BareStmt]) -> Mem<Option<Ref
 
 /// The file with its names resolved.
 fn file(alloc: Global, dialect: Dialect, body: &[BareStmt]) -> May<File, ParseFault>
-    ensures { Gives (named (resolved dialect body.now)) result }
+    ensures { Gives (file_or_unbound (resolved dialect body.now)) result }
 {
     match resolved(alloc, dialect, body) {
         Ok(file) => Ok(file),

@@ -1,4 +1,4 @@
-pub mod Begun
 pub mod NestsStatements
 pub mod Parsed
+pub mod Remainders
 pub mod Slices

@@ -6,9 +6,9 @@ ghost use Rattle.star_grammar.specs.declared.symbols.Sign.TheVariants as s;
 ghost use Rattle.star_expressions.specs.Reads.{Reads};
 
 use bz_text::{May, Seq};
-use star_trees::LoadName;
 use star_expressions::{Cursor, NoTree, checked, deep};
 use star_grammar::{BareLoadName, BareStmt, BareStmtKind, Inside, Sign};
+use star_trees::LoadName;
 use std::alloc::Global;
 
 #[tactic(auto, unfolding(star_grammar::specs::StatementReading::loaded_same))]

@@ -8,15 +8,17 @@ ghost use Rattle.star_grammar.specs.declared.symbols.Sign.TheVariants as s;
 ghost use Rattle.star_grammar.specs.Rules.{deep};
 ghost use Rattle.star_grammar.specs.Statements.{on_line};
 ghost use Rattle.star_grammar.specs.declared.bare_statements.BareStmtKind as st;
-ghost use Rattle.star_statements.specs.Begun.{begun};
+ghost use Rattle.star_statements.specs.Remainders.{behind_expression};
 ghost use Rattle.star_expressions.specs.Reads.{Finds, Reads};
 
 use crate::loads::load;
 use bz_text::May;
 use sqlite_items::Items;
-use star_trees::BinOp;
-use star_expressions::{Cursor, NoTree, checked, deep, is_place, is_target, only, test_list};
+use star_expressions::{
+    Cursor, Held, HeldTree, NoTree, checked, deep, is_place, is_target, only, test_list,
+};
 use star_grammar::{BareExpr, BareStmt, BareStmtKind, Inside, Sign};
+use star_trees::BinOp;
 use std::alloc::Global;
 
 #[tactic(auto, unfolding(star_grammar::specs::StatementReading::returned_value))]
@@ -59,13 +61,13 @@ fn assigned(
     symbols: &mut Cursor<'_>,
     nesting: usize,
     line: u64,
-    to: (BareExpr, usize),
+    to: HeldTree,
 ) -> May<(BareStmt, usize), NoTree>
     ensures { Reads (spec.assigned (reads nesting) line to symbols.old.rest.now) result symbols.new.rest.now }
 {
-    let (to, depth) = to;
-    checked(is_target(&to))?;
+    checked(is_target(&to.get().0))?;
     let (value, own) = test_list(alloc, symbols, nesting)?;
+    let (to, depth) = to.release();
     let kind = BareStmtKind::Assign { to, value };
     deep(BareStmt { line, kind }, depth.max(own))
 }
@@ -77,15 +79,15 @@ fn changed(
     symbols: &mut Cursor<'_>,
     nesting: usize,
     line: u64,
-    place: (BareExpr, usize),
+    place: HeldTree,
     op: BinOp,
 ) -> May<(BareStmt, usize), NoTree>
     ensures { Reads (spec.changed (reads nesting) line place op symbols.old.rest.now) result symbols.new.rest.now }
 {
-    let (place, depth) = place;
     symbols.skip();
-    checked(is_place(&place))?;
+    checked(is_place(&place.get().0))?;
     let (value, own) = test_list(alloc, symbols, nesting)?;
+    let (place, depth) = place.release();
     let kind = BareStmtKind::Augment { place, op, value };
     deep(BareStmt { line, kind }, depth.max(own))
 }
@@ -99,20 +101,20 @@ fn evaluated(line: u64, value: (BareExpr, usize)) -> May<(BareStmt, usize), NoTr
 }
 
 /// What stands behind the first expression.
-fn begun(
+fn behind_expression(
     alloc: Global,
     symbols: &mut Cursor<'_>,
     nesting: usize,
     line: u64,
     first: (BareExpr, usize),
 ) -> May<(BareStmt, usize), NoTree>
-    ensures { Reads (begun (reads nesting) line first symbols.old.rest.now) result symbols.new.rest.now }
+    ensures { Reads (behind_expression (reads nesting) line first symbols.old.rest.now) result symbols.new.rest.now }
 {
     if symbols.eat(Sign::Assign) {
-        return assigned(alloc, symbols, nesting, line, first);
+        return assigned(alloc, symbols, nesting, line, Held::new(first));
     }
     match symbols.augmented() {
-        Some(op) => changed(alloc, symbols, nesting, line, first, op),
+        Some(op) => changed(alloc, symbols, nesting, line, Held::new(first), op),
         None => evaluated(line, first),
     }
 }
@@ -128,7 +130,7 @@ fn valued(
     ensures { Reads (spec.valued (reads nesting) line symbols.old.rest.now) result symbols.new.rest.now }
 {
     let first = test_list(alloc, symbols, nesting)?;
-    begun(alloc, symbols, nesting, line, first)
+    behind_expression(alloc, symbols, nesting, line, first)
 }
 
 /// A word, where it may stand.

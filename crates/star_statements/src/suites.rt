@@ -10,7 +10,7 @@ ghost use Rattle.star_grammar.specs.declared.symbols.Sign.TheVariants as s;
 ghost use Rattle.star_grammar.specs.Rules.{deep};
 ghost use Rattle.star_grammar.specs.Statements.{on_line};
 ghost use Rattle.star_grammar.specs.declared.bare_statements.BareStmtKind as st;
-ghost use Rattle.star_statements.specs.Begun.{def_body, loop_body, loop_over};
+ghost use Rattle.star_statements.specs.Remainders.{def_body, loop_body, loop_over};
 ghost use Rattle.star_statements.specs.NestsStatements.{NestsStatements};
 ghost use Rattle.star_expressions.specs.Reads.{Finds, Reads};
 
@@ -18,12 +18,10 @@ use crate::small_statements::simple;
 use bz_text::{May, Txt};
 use sqlite_items::Items;
 use star_expressions::{
-    Cursor, NoTree, are_params, checked, deep, expression, listed_params, only, target_list,
-    test_list,
+    Cursor, Held, HeldTree, NoTree, are_params, checked, deep, expression, listed_params, only,
+    target_list, test_list,
 };
-use star_grammar::{
-    BareExpr, BareName, BareParam, BareStmt, BareStmtKind, Inside, Level, Part, Sign,
-};
+use star_grammar::{BareName, BareParam, BareStmt, BareStmtKind, Inside, Level, Part, Sign};
 use std::alloc::Global;
 
 /// `nested` reads statements in which so many constructs nest at most.
@@ -66,14 +64,14 @@ fn in_function() -> Inside
 
 fn loop_statement(
     line: u64,
-    to: (BareExpr, usize),
-    over: (BareExpr, usize),
+    to: HeldTree,
+    over: HeldTree,
     body: (Items<BareStmt>, usize),
 ) -> May<(BareStmt, usize), NoTree>
     ensures { Finds (deep (on_line line (st.For to.0 over.0 body.0)) (max to.1 (max over.1 body.1))) result }
 {
-    let (to, depth) = to;
-    let (over, own) = over;
+    let (to, depth) = to.release();
+    let (over, own) = over.release();
     let (body, last) = body;
     let kind = BareStmtKind::For { to, over, body };
     deep(BareStmt { line, kind }, depth.max(own.max(last)))
@@ -208,10 +206,12 @@ impl<
         requires { NestsStatements self.now.nesting (F.pre self.now.nested) (F.post self.now.nested) }
         ensures { Reads (spec.branch (reads self.now.nesting) (stands self.now.nesting) inside line symbols.old.rest.now) result symbols.new.rest.now }
     {
-        let (test, depth) = expression(self.alloc, symbols, self.nesting, Level::Test)?;
+        let test = expression(self.alloc, symbols, self.nesting, Level::Test)?;
+        let test = Held::new(test);
         symbols.expect(Sign::Colon)?;
         let (then, own) = self.suite(symbols, in_branch(inside))?;
         let (other, last) = self.otherwise(symbols, inside)?;
+        let (test, depth) = test.release();
         let kind = BareStmtKind::If { test, then, other };
         let (statement, depth) = deep(BareStmt { line, kind }, depth.max(own.max(last)))?;
         Ok((only(self.alloc, statement)?, depth))
@@ -223,8 +223,8 @@ impl<
         symbols: &mut Cursor<'_>,
         inside: Inside,
         line: u64,
-        to: (BareExpr, usize),
-        over: (BareExpr, usize),
+        to: HeldTree,
+        over: HeldTree,
     ) -> May<(Items<BareStmt>, usize), NoTree>
         requires { NestsStatements self.now.nesting (F.pre self.now.nested) (F.post self.now.nested) }
         ensures { Reads (loop_body (reads self.now.nesting) (stands self.now.nesting) inside line to over symbols.old.rest.now) result symbols.new.rest.now }
@@ -240,12 +240,12 @@ impl<
         symbols: &mut Cursor<'_>,
         inside: Inside,
         line: u64,
-        to: (BareExpr, usize),
+        to: HeldTree,
     ) -> May<(Items<BareStmt>, usize), NoTree>
         requires { NestsStatements self.now.nesting (F.pre self.now.nested) (F.post self.now.nested) }
         ensures { Reads (loop_over (reads self.now.nesting) (stands self.now.nesting) inside line to symbols.old.rest.now) result symbols.new.rest.now }
     {
-        let over = test_list(self.alloc, symbols, self.nesting)?;
+        let over = Held::new(test_list(self.alloc, symbols, self.nesting)?);
         symbols.expect(Sign::Colon)?;
         self.loop_body(symbols, inside, line, to, over)
     }
@@ -260,7 +260,7 @@ impl<
         requires { NestsStatements self.now.nesting (F.pre self.now.nested) (F.post self.now.nested) }
         ensures { Reads (spec.loop (reads self.now.nesting) (stands self.now.nesting) inside line symbols.old.rest.now) result symbols.new.rest.now }
     {
-        let to = target_list(self.alloc, symbols, self.nesting)?;
+        let to = Held::new(target_list(self.alloc, symbols, self.nesting)?);
         symbols.expect(Sign::In)?;
         self.loop_over(symbols, inside, line, to)
     }

@@ -1,5 +1,5 @@
 //! The symbols of a text: its tokens, each with what its slice of the text says.
-ghost use Rattle.std.specs.Prelude.{◌≡◌, length, drop, IfOk, bytes_eq};
+ghost use Rattle.std.specs.Prelude.{◌≡◌, length, drop, IfOk};
 ghost use Rattle.std.specs.Str.{IsUtf8};
 ghost use Rattle.star_grammar.specs.Symbols as spec;
 ghost use Rattle.star_grammar.specs.Symbols.{sign_in};
@@ -7,37 +7,31 @@ ghost use Rattle.star_lex.specs.Slices.{AreSlices};
 ghost use Rattle.star_lex.specs.declared.token.TokenKind.TheVariants as token_kind;
 ghost use Rattle.star_statements.specs.Slices.{IsPlaced};
 
-use bz_text::{Mem, Seq, Txt};
+use bz_text::{Mem, Seq, Txt, same_bytes};
 use star_grammar::{Sign, Symbol, SymbolKind};
 use star_lex::{Token, TokenKind};
 use std::alloc::Global;
-
-fn same(one: &[u8], other: &[u8]) -> bool
-    ensures { result ≡ bytes_eq one.now other.now }
-{
-    one == other
-}
 
 /// The keyword that a word is.
 #[tactic(auto, unfolding(star_grammar::specs::Symbols::keyword))]
 fn keyword(word: &[u8]) -> Sign
     ensures { result ≡ spec.keyword word.now }
 {
-    if same(word, b"and") {
+    if same_bytes(word, b"and") {
         Sign::And
-    } else if same(word, b"break") {
+    } else if same_bytes(word, b"break") {
         Sign::Break
-    } else if same(word, b"continue") {
+    } else if same_bytes(word, b"continue") {
         Sign::Continue
-    } else if same(word, b"def") {
+    } else if same_bytes(word, b"def") {
         Sign::Def
-    } else if same(word, b"elif") {
+    } else if same_bytes(word, b"elif") {
         Sign::Elif
-    } else if same(word, b"else") {
+    } else if same_bytes(word, b"else") {
         Sign::Else
-    } else if same(word, b"for") {
+    } else if same_bytes(word, b"for") {
         Sign::For
-    } else if same(word, b"if") {
+    } else if same_bytes(word, b"if") {
         Sign::If
     } else {
         keyword_from_in(word)
@@ -47,19 +41,19 @@ fn keyword(word: &[u8]) -> Sign
 fn keyword_from_in(word: &[u8]) -> Sign
     ensures { result ≡ sign_in (drop 8 spec.keywords) word.now }
 {
-    if same(word, b"in") {
+    if same_bytes(word, b"in") {
         Sign::In
-    } else if same(word, b"lambda") {
+    } else if same_bytes(word, b"lambda") {
         Sign::Lambda
-    } else if same(word, b"load") {
+    } else if same_bytes(word, b"load") {
         Sign::Load
-    } else if same(word, b"not") {
+    } else if same_bytes(word, b"not") {
         Sign::Not
-    } else if same(word, b"or") {
+    } else if same_bytes(word, b"or") {
         Sign::Or
-    } else if same(word, b"pass") {
+    } else if same_bytes(word, b"pass") {
         Sign::Pass
-    } else if same(word, b"return") {
+    } else if same_bytes(word, b"return") {
         Sign::Return
     } else {
         Sign::Reserved
@@ -71,21 +65,21 @@ fn keyword_from_in(word: &[u8]) -> Sign
 fn mark(word: &[u8]) -> Sign
     ensures { result ≡ spec.mark word.now }
 {
-    if same(word, b"+") {
+    if same_bytes(word, b"+") {
         Sign::Plus
-    } else if same(word, b"-") {
+    } else if same_bytes(word, b"-") {
         Sign::Minus
-    } else if same(word, b"*") {
+    } else if same_bytes(word, b"*") {
         Sign::Star
-    } else if same(word, b"//") {
+    } else if same_bytes(word, b"//") {
         Sign::Slashes
-    } else if same(word, b"%") {
+    } else if same_bytes(word, b"%") {
         Sign::Percent
-    } else if same(word, b"**") {
+    } else if same_bytes(word, b"**") {
         Sign::StarStar
-    } else if same(word, b"~") {
+    } else if same_bytes(word, b"~") {
         Sign::Tilde
-    } else if same(word, b"&") {
+    } else if same_bytes(word, b"&") {
         Sign::Ampersand
     } else {
         mark_from_bar(word)
@@ -95,21 +89,21 @@ fn mark(word: &[u8]) -> Sign
 fn mark_from_bar(word: &[u8]) -> Sign
     ensures { result ≡ sign_in (drop 8 spec.marks) word.now }
 {
-    if same(word, b"|") {
+    if same_bytes(word, b"|") {
         Sign::Bar
-    } else if same(word, b"^") {
+    } else if same_bytes(word, b"^") {
         Sign::Caret
-    } else if same(word, b"<<") {
+    } else if same_bytes(word, b"<<") {
         Sign::ShiftLeft
-    } else if same(word, b">>") {
+    } else if same_bytes(word, b">>") {
         Sign::ShiftRight
-    } else if same(word, b".") {
+    } else if same_bytes(word, b".") {
         Sign::Dot
-    } else if same(word, b",") {
+    } else if same_bytes(word, b",") {
         Sign::Comma
-    } else if same(word, b"=") {
+    } else if same_bytes(word, b"=") {
         Sign::Assign
-    } else if same(word, b";") {
+    } else if same_bytes(word, b";") {
         Sign::Semicolon
     } else {
         mark_from_colon(word)
@@ -119,21 +113,21 @@ fn mark_from_bar(word: &[u8]) -> Sign
 fn mark_from_colon(word: &[u8]) -> Sign
     ensures { result ≡ sign_in (drop 16 spec.marks) word.now }
 {
-    if same(word, b":") {
+    if same_bytes(word, b":") {
         Sign::Colon
-    } else if same(word, b"(") {
+    } else if same_bytes(word, b"(") {
         Sign::LeftRound
-    } else if same(word, b")") {
+    } else if same_bytes(word, b")") {
         Sign::RightRound
-    } else if same(word, b"[") {
+    } else if same_bytes(word, b"[") {
         Sign::LeftSquare
-    } else if same(word, b"]") {
+    } else if same_bytes(word, b"]") {
         Sign::RightSquare
-    } else if same(word, b"{") {
+    } else if same_bytes(word, b"{") {
         Sign::LeftCurly
-    } else if same(word, b"}") {
+    } else if same_bytes(word, b"}") {
         Sign::RightCurly
-    } else if same(word, b"<") {
+    } else if same_bytes(word, b"<") {
         Sign::Below
     } else {
         mark_from_above(word)
@@ -143,21 +137,21 @@ fn mark_from_colon(word: &[u8]) -> Sign
 fn mark_from_above(word: &[u8]) -> Sign
     ensures { result ≡ sign_in (drop 24 spec.marks) word.now }
 {
-    if same(word, b">") {
+    if same_bytes(word, b">") {
         Sign::Above
-    } else if same(word, b">=") {
+    } else if same_bytes(word, b">=") {
         Sign::AtLeast
-    } else if same(word, b"<=") {
+    } else if same_bytes(word, b"<=") {
         Sign::AtMost
-    } else if same(word, b"==") {
+    } else if same_bytes(word, b"==") {
         Sign::Equal
-    } else if same(word, b"!=") {
+    } else if same_bytes(word, b"!=") {
         Sign::Unequal
-    } else if same(word, b"+=") {
+    } else if same_bytes(word, b"+=") {
         Sign::PlusAssign
-    } else if same(word, b"-=") {
+    } else if same_bytes(word, b"-=") {
         Sign::MinusAssign
-    } else if same(word, b"*=") {
+    } else if same_bytes(word, b"*=") {
         Sign::StarAssign
     } else {
         mark_from_slashesassign(word)
@@ -167,19 +161,19 @@ fn mark_from_above(word: &[u8]) -> Sign
 fn mark_from_slashesassign(word: &[u8]) -> Sign
     ensures { result ≡ sign_in (drop 32 spec.marks) word.now }
 {
-    if same(word, b"//=") {
+    if same_bytes(word, b"//=") {
         Sign::SlashesAssign
-    } else if same(word, b"%=") {
+    } else if same_bytes(word, b"%=") {
         Sign::PercentAssign
-    } else if same(word, b"&=") {
+    } else if same_bytes(word, b"&=") {
         Sign::AmpersandAssign
-    } else if same(word, b"|=") {
+    } else if same_bytes(word, b"|=") {
         Sign::BarAssign
-    } else if same(word, b"^=") {
+    } else if same_bytes(word, b"^=") {
         Sign::CaretAssign
-    } else if same(word, b"<<=") {
+    } else if same_bytes(word, b"<<=") {
         Sign::ShiftLeftAssign
-    } else if same(word, b">>=") {
+    } else if same_bytes(word, b">>=") {
         Sign::ShiftRightAssign
     } else {
         Sign::Reserved

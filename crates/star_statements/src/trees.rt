@@ -46,11 +46,26 @@ fn whole(alloc: Global, symbols: &[Symbol]) -> May<BareFile, TreeFault>
 {
     let mut cursor = Cursor { rest: symbols };
     let found = file(alloc, &mut cursor);
-    let hint = cursor.line();
-    let Cursor { rest: _ } = cursor;
+    let Cursor { rest } = cursor;
+    let hint = line_to_look_at(symbols, rest);
     match found {
         Ok(file) => Ok(file),
         Err(Miss::Because(NoTree)) => Err(Miss::Because(TreeFault::Syntax { hint })),
         Err(Miss::OutOfMemory) => Err(Miss::OutOfMemory),
+    }
+}
+
+/// The line of the next symbol, or of the last where none is left.
+fn line_to_look_at(symbols: &[Symbol], rest: &[Symbol]) -> u64 {
+    match rest {
+        [next, ..] => next.line,
+        [] => last_line(symbols),
+    }
+}
+
+fn last_line(symbols: &[Symbol]) -> u64 {
+    match symbols {
+        [.., last] => last.line,
+        [] => 1,
     }
 }

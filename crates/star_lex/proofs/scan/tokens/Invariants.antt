@@ -3,8 +3,8 @@ use Rattle.star_lex.proofs.ScanLaws.{Scans}
 use Rattle.star_lex.proofs.scan.tokens.Given as goal
 
 -- whatever completes the rest completes the whole, and whatever reads the whole goes through the layout so far
-abbrev pub invariant-pieces : goal.invariant-pieces
-invariant-pieces l = Scans l.text l.layout l.rest
+abbrev pub invariant-lexemes : goal.invariant-lexemes
+invariant-lexemes l = Scans l.text l.layout l.rest
 
-abbrev pub decreases-pieces : goal.decreases-pieces
-decreases-pieces l = length l.rest
+abbrev pub decreases-lexemes : goal.decreases-lexemes
+decreases-lexemes l = length l.rest

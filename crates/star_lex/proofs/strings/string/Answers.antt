@@ -3,7 +3,7 @@ use Rattle.std.proofs.lemmas.List.{length-drop}
 use Rattle.star_lex.specs.declared.strings.Style.{Style}
 use Rattle.star_lex.specs.Strings.{Contents, opening, style_of}
 use Rattle.star_lex.proofs.StringContents.{style_of-quote, Contents-within}
-use Rattle.star_lex.proofs.TextPieces.{behind-opening}
+use Rattle.star_lex.proofs.TextLexemes.{behind-opening}
 use Rattle.star_lex.proofs.strings.string.Goals as goal
 
 pub contents-requires : goal.contents-requires

@@ -17,8 +17,8 @@ returns-then-not-begins_suffix g c =
     let e = one_more (λ n. rounds (begins_suffix (reads c.args.self.now.nesting)) (suffix (reads c.args.self.now.nesting)) n c.turns.found c.turns.symbols.rest.now) _ c.turns.turn c.turns-test.true c.turns.invariant in
     first_of (search rules, grind (arith, common_steps))
 
-pub returns-in_err-found : goal.returns-in_err-found
+pub returns-in_err-suffix : goal.returns-in_err-suffix
 unfolding rounds
-returns-in_err-found g c =
+returns-in_err-suffix g c =
     let e = one_more (λ n. rounds (begins_suffix (reads c.args.self.now.nesting)) (suffix (reads c.args.self.now.nesting)) n c.turns.found c.turns.symbols.rest.now) _ c.turns.turn c.turns-test.true c.turns.invariant in
     first_of (search rules, grind (arith, common_steps))

@@ -3,9 +3,9 @@ use Rattle.std.proofs.lemmas.Grind.{common_steps}
 use Rattle.star_grammar.specs.StatementReading.{loop}
 use Rattle.star_statements.proofs.suites.Suites.looped.Goals as goal
 
-pub returns-in_err-to : goal.returns-in_err-to
+pub returns-in_err-target_list : goal.returns-in_err-target_list
 unfolding loop
-returns-in_err-to g c = first_of (search rules, grind (arith, common_steps))
+returns-in_err-target_list g c = first_of (search rules, grind (arith, common_steps))
 
 pub returns-in_err-expect : goal.returns-in_err-expect
 unfolding loop

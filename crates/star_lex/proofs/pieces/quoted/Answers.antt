@@ -1,5 +1,0 @@
-use Rattle.star_lex.proofs.PieceLaws.{IsQuoted-absent}
-use Rattle.star_lex.proofs.pieces.quoted.Goals as goal
-
-pub returns-in-Err-Because : goal.returns-in-Err-Because
-returns-in-Err-Because c = IsQuoted-absent c.args.text.now (rw c.in-Err-Because.field-0-is at c.in-Err-Because.ensures)
