@@ -32,12 +32,7 @@ fn home_file(alloc: Global) -> Result<Label, Fail> {
     })
 }
 
-fn means(
-    rt: &impl Abort,
-    alloc: Global,
-    text: &str,
-    want: (&str, &str, &str),
-) -> Result<(), Fail> {
+fn means(rt: &impl Abort, alloc: Global, text: &str, want: (&str, &str, &str)) -> Result<(), Fail> {
     let mut map = Mapping::new(alloc);
     map.add(alloc, Txt::of(alloc, "e")?, Txt::of(alloc, "e+")?)?;
     let label = resolve(alloc, &map, &home_file(alloc)?, text)?;

@@ -1,4 +1,5 @@
-//! Rows for the ground floor: texts, plain values, paths, versions, labels and the outside, each public call once as a caller would make it. It holds tests alone.
+//! Rows for the ground floor: texts, plain values, paths, versions, labels and the outside, each
+//! public call once as a caller would make it. It holds tests alone.
 #![tactic(auto)]
 
 #[cfg(test)]

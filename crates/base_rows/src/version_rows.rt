@@ -46,9 +46,7 @@ fn build_has_no_part_in_the_text_or_the_order(rt: HostRuntime) -> Result<(), Fai
 }
 
 #[test]
-fn a_fault_has_the_first_place_after_which_no_version_follows(
-    rt: HostRuntime,
-) -> Result<(), Fail> {
+fn a_fault_has_the_first_place_after_which_no_version_follows(rt: HostRuntime) -> Result<(), Fail> {
     let alloc = rt.alloc();
     for (text, place) in [
         ("1..0", 2),

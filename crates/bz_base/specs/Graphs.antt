@@ -1,5 +1,7 @@
 -- What holds of a graph of module versions, and of what is selected of it.
-use Rattle.std.specs.Prelude.{◌≡◌, ◌≢◌, ◌<◌, false, List, [], ◌∷◌, length, map, slice_get, Option, Some, None, Result, Ok, Err, IsOk, IsTrue, IsSomeAnd, All, AllPairs, Any}
+use Rattle.std.specs.Prelude.{◌≡◌, ◌≢◌, ◌<◌, false, List, [], ◌∷◌, length, map, slice_get, Option}
+use Rattle.std.specs.Prelude.{Some, None, Result, Ok, Err, IsOk, IsTrue, IsSomeAnd, All, AllPairs}
+use Rattle.std.specs.Prelude.{Any}
 use Rattle.bz_base.specs.declared.declarations.Dep.{Dep}
 use Rattle.bz_base.specs.declared.module_key.Key.{Key}
 use Rattle.bz_base.specs.declared.refusals.Refusal.{Refusal}
@@ -32,7 +34,8 @@ pub record IsGraph (graph : Graph) : Type 0 where
   pub each_need : All HasEachNeed graph.nodes
   pub needs_there : All (HasItsNeeds graph.nodes) graph.nodes
 
--- what a dependency means by the root's overrides: the root itself, where it is None, or a key; a dependency whose version is missing is refused
+-- what a dependency means by the root's overrides: the root itself, where it is None, or a key; a
+-- dependency whose version is missing is refused
 abbrev pub Effects : Type 0
 Effects = Dep → Result (Option Key) Refusal
 
@@ -49,7 +52,8 @@ keys_meant (Ok (Some key) ∷ effects) = key ∷ keys_meant effects
 keys_meant (Ok None ∷ effects) = keys_meant effects
 keys_meant (Err refusal ∷ effects) = keys_meant effects
 
--- each need of a node is the key that its dependency means, in order; its nodep keys are those of its nodep dependencies that mean another module than the root, and none of them lacks a version
+-- each need of a node is the key that its dependency means, in order; its nodep keys are those of
+-- its nodep dependencies that mean another module than the root, and none of them lacks a version
 pub record NeedsAreEffective (effects : Effects) (root : Key) (node : GraphNode) : Type 0 where
   pub needs : map Ok node.needs ≡ map (λ dep. key_meant root (effects dep)) node.decl.deps
   pub nodeps : node.nodeps ≡ keys_meant (map effects node.decl.nodeps)
@@ -58,7 +62,8 @@ pub record NeedsAreEffective (effects : Effects) (root : Key) (node : GraphNode)
 -- each nodep key whose module's name some node has is the key of a node
 abbrev pub NodepsAreThere : List GraphNode → GraphNode → Type 0
 NodepsAreThere nodes node =
-    All (λ key. Any (λ named. named.key.name ≡ key.name) nodes → Any (λ needed. needed.key ≡ key) nodes) node.nodeps
+    All (λ key. Any (λ named. named.key.name ≡ key.name) nodes
+    → Any (λ needed. needed.key ≡ key) nodes) node.nodeps
 
 -- a graph by what its dependencies mean
 pub record IsGraphBy (effects : Effects) (root : Key) (graph : Graph) : Type 0 where
@@ -73,7 +78,8 @@ BeginsAtRoot (chosen ∷ modules) = chosen.node ≡ 0
 
 -- a selected module is a node of the graph, with one place per need of that node
 abbrev pub IsChosenOf : List GraphNode → Chosen → Type 0
-IsChosenOf nodes chosen = IsSomeAnd (slice_get nodes chosen.node) (λ node. length chosen.deps ≡ length node.needs)
+IsChosenOf nodes chosen = IsSomeAnd (slice_get nodes chosen.node)
+    (λ node. length chosen.deps ≡ length node.needs)
 
 -- the dependencies of each module are selected modules
 abbrev pub DepsAreThere : List Chosen → Type 0

@@ -1,5 +1,6 @@
 -- Module keys, and how they are printed: Bazel, "Bazel modules".
-use Rattle.std.specs.Prelude.{ℕ, Bool, if◌then◌else◌, ◌==◌, ◌&&◌, List, ◌++◌, length, codes, bytes_eq}
+use Rattle.std.specs.Prelude.{ℕ, Bool, if◌then◌else◌, ◌==◌, ◌&&◌, List, ◌++◌, length, codes}
+use Rattle.std.specs.Prelude.{bytes_eq}
 use Rattle.bz_base.specs.declared.module_graph.GraphNode.{GraphNode}
 use Rattle.bz_base.specs.declared.module_key.Key.{Key}
 

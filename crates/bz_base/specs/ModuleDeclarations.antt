@@ -1,5 +1,7 @@
 -- What a module file's declarations are: Bazel, "MODULE.bazel files".
-use Rattle.std.specs.Prelude.{◌≡◌, ◌≢◌, ℕ, ◌≤◌, ◌<◌, true, false, ◌&&◌, ◌||◌, not, List, [], ◌++◌, take, drop, Ok, IsOk, IsTrue, All, AllPairs, Any, codes, bytes_eq, ◌⊎◌}
+use Rattle.std.specs.Prelude.{◌≡◌, ◌≢◌, ℕ, ◌≤◌, ◌<◌, true, false, ◌&&◌, ◌||◌, not, List, [], ◌++◌}
+use Rattle.std.specs.Prelude.{take, drop, Ok, IsOk, IsTrue, All, AllPairs, Any, codes, bytes_eq}
+use Rattle.std.specs.Prelude.{◌⊎◌}
 use Rattle.bz_version.specs.Scan.{version_of}
 use Rattle.bz_base.specs.Names.{is_identifier, is_module_name, is_repository_name}
 use Rattle.bz_base.specs.Paths.{joined}
@@ -10,7 +12,8 @@ use Rattle.bz_base.specs.declared.declarations.Import.{Import}
 use Rattle.bz_base.specs.declared.declarations.ModuleDecl.{ModuleDecl}
 use Rattle.bz_base.specs.declared.declarations.Override.{Override}
 use Rattle.bz_base.specs.declared.declarations.OverrideKind.{OverrideKind}
-use Rattle.bz_base.specs.declared.declarations.OverrideKind.TheVariants.{Single, Multiple, Local, Archive, Git}
+use Rattle.bz_base.specs.declared.declarations.OverrideKind.TheVariants.{Single, Multiple, Local}
+use Rattle.bz_base.specs.declared.declarations.OverrideKind.TheVariants.{Archive, Git}
 use Rattle.bz_base.specs.declared.declarations.Part.{Part}
 use Rattle.bz_base.specs.declared.declarations.Part.TheVariants as part
 use Rattle.bz_base.specs.declared.declarations.RepoChange.{RepoChange}
@@ -47,7 +50,8 @@ abbrev pub IsImport : Import → Type 0
 IsImport one = IsTrue (is_repository_name one.apparent) × IsTrue (is_repository_name one.real)
 
 abbrev pub IsRepoChange : RepoChange → Type 0
-IsRepoChange change = IsTrue (is_repository_name change.real) × IsTrue (is_repository_name change.apparent)
+IsRepoChange change = IsTrue (is_repository_name change.real)
+    × IsTrue (is_repository_name change.apparent)
 
 -- an extension's exported name, which is no private one, and what the file says of it
 pub record IsUsage (usage : Usage) : Type 0 where
@@ -67,8 +71,10 @@ IsRegistryPath path = (path ≢ []) × (joined [] path ≡ Ok path)
 -- `file://%workspace%/PATH` with a relative path, or `file://` and a path from `/` on
 abbrev pub IsRegistry : List ℕ → Type 0
 IsRegistry text =
-    ((path : List ℕ) × (text ≡ codes "file://%workspace%/" ++ path) × IsRegistryPath path × (take 1 path ≢ codes "/"))
-    ⊎ ((path : List ℕ) × (text ≡ codes "file://" ++ path) × IsRegistryPath path × (take 1 path ≡ codes "/") × (path ≢ codes "/"))
+    ((path : List ℕ) × (text ≡ codes "file://%workspace%/" ++ path) × IsRegistryPath path
+    × (take 1 path ≢ codes "/"))
+    ⊎ ((path : List ℕ) × (text ≡ codes "file://" ++ path) × IsRegistryPath path
+    × (take 1 path ≡ codes "/") × (path ≢ codes "/"))
 
 -- a registry that an override names, or none
 abbrev pub IsRegistryOrNone : List ℕ → Type 0
@@ -77,7 +83,8 @@ IsRegistryOrNone text = (text ≡ []) ⊎ IsRegistry text
 abbrev pub IsOverrideKind : OverrideKind → Type 0
 IsOverrideKind (Single version registry patched) = IsVersionText version × IsRegistryOrNone registry
 IsOverrideKind (Multiple versions registry) =
-    All IsVersionText versions × Any (λ one. Any (λ other. one ≢ other) versions) versions × IsRegistryOrNone registry
+    All IsVersionText versions × Any (λ one. Any (λ other. one ≢ other) versions) versions
+    × IsRegistryOrNone registry
 IsOverrideKind (Local path) = IsOk (joined [] path)
 IsOverrideKind Archive = Unit {0}
 IsOverrideKind Git = Unit {0}

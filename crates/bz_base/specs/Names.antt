@@ -1,7 +1,10 @@
--- Names of modules, repositories and what lies in them: Bazel's "Bazel modules", "External dependencies overview" and "Labels".
-use Rattle.std.specs.Prelude.{ℕ, Bool, false, not, ◌||◌, ◌&&◌, ◌==◌, nat_lt, List, [], ◌∷◌, bytes_eq}
+-- Names of modules, repositories and what lies in them: Bazel's "Bazel modules", "External
+-- dependencies overview" and "Labels".
+use Rattle.std.specs.Prelude.{ℕ, Bool, false, not, ◌||◌, ◌&&◌, ◌==◌, nat_lt, List, [], ◌∷◌}
+use Rattle.std.specs.Prelude.{bytes_eq}
 use Rattle.std.specs.List.{list_all}
-use Rattle.std.specs.Char.{is_ascii_digit, is_ascii_lowercase, is_ascii_alphabetic, is_ascii_alphanumeric}
+use Rattle.std.specs.Char.{is_ascii_digit, is_ascii_lowercase, is_ascii_alphabetic}
+use Rattle.std.specs.Char.{is_ascii_alphanumeric}
 use Rattle.bz_base.specs.Paths.{segments_of, stays, goes_up}
 
 -- the first byte passes one test and each byte another
@@ -25,7 +28,8 @@ is_module_byte b = is_ascii_lowercase b || is_ascii_digit b || is_joint b
 -- a module's name: lower-case letters, digits, `.`, `-` and `_`, from a letter to a letter or digit
 abbrev pub is_module_name : List ℕ → Bool
 is_module_name text =
-    begins_and_goes_on is_ascii_lowercase is_module_byte text && ends (λ b. is_ascii_lowercase b || is_ascii_digit b) text
+    begins_and_goes_on is_ascii_lowercase is_module_byte text
+    && ends (λ b. is_ascii_lowercase b || is_ascii_digit b) text
 
 abbrev pub is_apparent_byte : ℕ → Bool
 is_apparent_byte b = is_ascii_alphanumeric b || is_joint b
@@ -48,7 +52,8 @@ is_repository_name text = begins_and_goes_on is_ascii_alphabetic is_apparent_byt
 -- an identifier of Starlark
 abbrev pub is_identifier : List ℕ → Bool
 is_identifier text =
-    begins_and_goes_on (λ b. is_ascii_alphabetic b || b == 95) (λ b. is_ascii_alphanumeric b || b == 95) text
+    begins_and_goes_on (λ b. is_ascii_alphabetic b || b == 95)
+    (λ b. is_ascii_alphanumeric b || b == 95) text
 
 -- a byte of a package or a target name: no `:`, no `\`, no control character
 abbrev pub is_label_byte : ℕ → Bool

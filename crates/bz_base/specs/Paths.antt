@@ -1,5 +1,8 @@
--- Paths, resolved by their text alone: POSIX.1-2017, 4.13 "Pathname Resolution", with no link followed; RFC 3986, 5.2.4 "Remove Dot Segments".
-use Rattle.std.specs.Prelude.{ℕ, ◌-◌, Bool, true, false, not, ◌||◌, ◌==◌, if◌then◌else◌, List, [], ◌∷◌, ◌++◌, length, take, slice_index, slice_get, Result, Ok, Err, Option, Some, None, codes, bytes_eq, flat_map}
+-- Paths, resolved by their text alone: POSIX.1-2017, 4.13 "Pathname Resolution", with no link
+-- followed; RFC 3986, 5.2.4 "Remove Dot Segments".
+use Rattle.std.specs.Prelude.{ℕ, ◌-◌, Bool, true, false, not, ◌||◌, ◌==◌, if◌then◌else◌, List, []}
+use Rattle.std.specs.Prelude.{◌∷◌, ◌++◌, length, take, slice_index, slice_get, Result, Ok, Err}
+use Rattle.std.specs.Prelude.{Option, Some, None, codes, bytes_eq, flat_map}
 use Rattle.std.specs.List.{slice_split, list_any}
 use Rattle.bz_base.specs.declared.tree_path.BadPath.{BadPath}
 
@@ -41,10 +44,14 @@ stepped rooted names segment =
     else (if goes_up segment then above rooted names else Ok (names ++ segment ∷ []))
 
 -- the names after each segment in turn
-abbrev pub walked : Bool → Result (List (List ℕ)) BadPath → List (List ℕ) → Result (List (List ℕ)) BadPath
+abbrev pub walked : Bool
+    → Result (List (List ℕ)) BadPath
+    → List (List ℕ)
+    → Result (List (List ℕ)) BadPath
 walked rooted (Err bad) segments = Err bad
 walked rooted (Ok names) [] = Ok names
-walked rooted (Ok names) (segment ∷ segments) = walked rooted (stepped rooted names segment) segments
+walked rooted (Ok names) (segment ∷ segments) = walked rooted
+    (stepped rooted names segment) segments
 
 -- the first name, and each further one behind a slash
 abbrev pub names_joined : List (List ℕ) → List ℕ
@@ -62,7 +69,8 @@ spelled_path rooted (Err bad) = Err bad
 -- the names of one text and then of another, resolved in turn
 unfoldable pub resolved : Bool → List ℕ → List ℕ → Result (List ℕ) BadPath
 resolved rooted path text =
-    spelled_path rooted (walked rooted (walked rooted (Ok []) (segments_of path)) (segments_of text))
+    spelled_path rooted (walked rooted (walked rooted (Ok []) (segments_of path)) (segments_of
+    text))
 
 abbrev pub has_nul : List ℕ → Bool
 has_nul text = list_any (λ b. b == 0) text

@@ -1,5 +1,6 @@
 -- Labels as they are printed, taken apart: Bazel's "Labels".
-use Rattle.std.specs.Prelude.{ℕ, Bool, ◌&&◌, ◌||◌, List, [], Result, Ok, Err, Option, None, Some, option_and_then, bytes_eq, if◌then◌else◌}
+use Rattle.std.specs.Prelude.{ℕ, Bool, ◌&&◌, ◌||◌, List, [], Result, Ok, Err, Option, None, Some}
+use Rattle.std.specs.Prelude.{option_and_then, bytes_eq, if◌then◌else◌}
 use Rattle.bz_text.specs.Cuts.{behind, cut, cut_at_root}
 use Rattle.bz_base.specs.Names.{is_canonical, is_package, is_segmented}
 use Rattle.bz_base.specs.declared.labels.Label.{Label}
@@ -12,7 +13,9 @@ not_plain = record {}
 -- a canonical name, a package and a name, or the top of a repository
 abbrev pub is_label : Label → Bool
 is_label label =
-    is_canonical label.repo && (is_package label.package && (is_segmented label.name || (bytes_eq label.name [] && bytes_eq label.package [])))
+    is_canonical label.repo
+    && (is_package label.package
+    && (is_segmented label.name || (bytes_eq label.name [] && bytes_eq label.package [])))
 
 -- the label, where it is good
 abbrev pub good_label : Label → Result Label NotPlain
@@ -21,7 +24,8 @@ good_label label = if is_label label then Ok label else Err not_plain
 -- a package, `:` and a name
 abbrev pub target_label : List ℕ → Option (List ℕ × List ℕ) → Result Label NotPlain
 target_label repo None = Err not_plain
-target_label repo (Some parts) = good_label (record { repo = repo; «package» = parts.0; name = parts.1 })
+target_label repo (Some parts) = good_label
+    (record { repo = repo; «package» = parts.0; name = parts.1 })
 
 -- a canonical name, `//` and what stands there
 abbrev pub rooted_label : Option (List ℕ × List ℕ) → Result Label NotPlain

@@ -1,6 +1,10 @@
 -- JSON as plain values: RFC 8259.
-use Rattle.std.specs.Prelude.{ℕ, ◌-◌, ◌==◌, zero, suc, max, pos, negsuc, ◌^◌, nat_lt, ℤ, Bool, true, ◌&&◌, List, [], ◌∷◌, ◌++◌, Result, Ok, Err, Option, None, Some, codes, bytes_eq, if◌then◌else◌}
-use Rattle.serde_json.specs.Data.{Data, Num, unsigned, negative, float, null, boolean, number, string, array, object, Items, no_items, item, Members, no_members, member}
+use Rattle.std.specs.Prelude.{ℕ, ◌-◌, ◌==◌, zero, suc, max, pos, negsuc, ◌^◌, nat_lt, ℤ, Bool, true}
+use Rattle.std.specs.Prelude.{◌&&◌, List, [], ◌∷◌, ◌++◌, Result, Ok, Err, Option, None, Some, codes}
+use Rattle.std.specs.Prelude.{bytes_eq, if◌then◌else◌}
+use Rattle.serde_json.specs.Data.{Data, Num, unsigned, negative, float, null, boolean, number}
+use Rattle.serde_json.specs.Data.{string, array, object, Items, no_items, item, Members, no_members}
+use Rattle.serde_json.specs.Data.{member}
 use Rattle.serde_json.specs.Find.{as_array, as_str}
 use Rattle.bz_base.specs.PlainLabels.{is_label, label_of, not_plain}
 use Rattle.bz_base.specs.declared.labels.Label.{Label}
@@ -14,7 +18,8 @@ use Rattle.bz_base.specs.declared.plain_values.PlainPair.{PlainPair, fold-PlainP
 abbrev pub integer_of : Num → Result Plain NotPlain
 integer_of (unsigned n) = if nat_lt n (2 ^ 63) then Ok (plain.Int (pos n)) else Err not_plain
 integer_of (negative (pos n)) = Err not_plain
-integer_of (negative (negsuc n)) = if nat_lt n (2 ^ 63) then Ok (plain.Int (negsuc n)) else Err not_plain
+integer_of (negative (negsuc n)) = if nat_lt n (2 ^ 63) then Ok (plain.Int (negsuc n))
+    else Err not_plain
 integer_of (float x) = Err not_plain
 
 -- the values and one more, unless it is none
@@ -23,7 +28,11 @@ added values (Ok value) = Ok (values ++ value ∷ [])
 added values (Err bad) = Err bad
 
 -- the values so far, and then what each further item is
-abbrev pub each_after : {T : Type 0} → (Data → Result T NotPlain) → Result (List T) NotPlain → Items → Result (List T) NotPlain
+abbrev pub each_after : {T : Type 0}
+    → (Data → Result T NotPlain)
+    → Result (List T) NotPlain
+    → Items
+    → Result (List T) NotPlain
 each_after read (Err bad) jsons = Err bad
 each_after read (Ok values) no_items = Ok values
 each_after read (Ok values) (item json jsons) = each_after read (added values (read json)) jsons
@@ -67,7 +76,9 @@ label_under None = Err not_plain
 label_under (Some text) = label_plain (label_of text)
 
 -- under `pairs` stands a list of pairs
-abbrev pub pairs_under : (Items → Result (List PlainPair) NotPlain) → Option Items → Result Plain NotPlain
+abbrev pub pairs_under : (Items → Result (List PlainPair) NotPlain)
+    → Option Items
+    → Result Plain NotPlain
 pairs_under pairs None = Err not_plain
 pairs_under pairs (Some jsons) = pairs_plain (pairs jsons)
 
@@ -78,14 +89,20 @@ only_member (member tag json no_members) = Some (tag, json)
 only_member (member tag json (member other further rest)) = None
 
 -- an object's one member stands under `label` or under `pairs`
-abbrev pub tagged_plain : (Items → Result (List PlainPair) NotPlain) → Option (List ℕ × Data) → Result Plain NotPlain
+abbrev pub tagged_plain : (Items → Result (List PlainPair) NotPlain)
+    → Option (List ℕ × Data)
+    → Result Plain NotPlain
 tagged_plain pairs None = Err not_plain
 tagged_plain pairs (Some entry) =
     if bytes_eq entry.0 (codes "label") then label_under (as_str entry.1)
-    else (if bytes_eq entry.0 (codes "pairs") then pairs_under pairs (as_array entry.1) else Err not_plain)
+    else (if bytes_eq entry.0 (codes "pairs") then pairs_under pairs (as_array entry.1) else Err
+    not_plain)
 
 -- one level, by what reads a list of values and a list of pairs
-abbrev pub plain_layer : (Items → Result (List Plain) NotPlain) → (Items → Result (List PlainPair) NotPlain) → Data → Result Plain NotPlain
+abbrev pub plain_layer : (Items → Result (List Plain) NotPlain)
+    → (Items → Result (List PlainPair) NotPlain)
+    → Data
+    → Result Plain NotPlain
 plain_layer items pairs null = Ok plain.None
 plain_layer items pairs (boolean flag) = Ok (plain.Flag flag)
 plain_layer items pairs (number num) = integer_of num
@@ -97,16 +114,19 @@ plain_layer items pairs (object members) = tagged_plain pairs (only_member membe
 unfoldable pub plain_within : ℕ → Data → Result Plain NotPlain
 plain_within zero json = plain_layer (λ jsons. Err not_plain) (λ jsons. Err not_plain) json
 plain_within (suc depth) json =
-    plain_layer (each_after (plain_within depth) (Ok [])) (each_after (pair_of (plain_within depth)) (Ok [])) json
+    plain_layer (each_after (plain_within depth) (Ok []))
+    (each_after (pair_of (plain_within depth)) (Ok [])) json
 
 -- nothing lies below the last level
 abbrev pub items_within : ℕ → Items → Result (List Plain) NotPlain
-items_within depth jsons = if depth == 0 then Err not_plain else each_after (plain_within (depth - 1)) (Ok []) jsons
+items_within depth jsons = if depth == 0 then Err not_plain
+    else each_after (plain_within (depth - 1)) (Ok []) jsons
 
 -- nor do pairs
 abbrev pub pairs_within : ℕ → Items → Result (List PlainPair) NotPlain
 pairs_within depth jsons =
-    if depth == 0 then Err not_plain else each_after (pair_of (plain_within (depth - 1))) (Ok []) jsons
+    if depth == 0 then Err not_plain
+    else each_after (pair_of (plain_within (depth - 1))) (Ok []) jsons
 
 -- the plain value with this JSON, at most 16 deep
 abbrev pub plain_of : Data → Result Plain NotPlain

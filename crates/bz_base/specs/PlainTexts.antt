@@ -1,6 +1,7 @@
 -- Plain values as JSON: RFC 8259.
 use Rattle.std.specs.Prelude.{ℕ, List, ◌∷◌, ◌++◌, codes}
-use Rattle.serde_json.specs.Data.{Data, null, boolean, number, string, array, object, no_items, item, no_members, member}
+use Rattle.serde_json.specs.Data.{Data, null, boolean, number, string, array, object, no_items}
+use Rattle.serde_json.specs.Data.{item, no_members, member}
 use Rattle.serde_json.specs.Find.{of_integer}
 use Rattle.serde_json.specs.View.{items_of}
 use Rattle.bz_base.specs.declared.labels.Label.{Label}
@@ -10,7 +11,8 @@ use Rattle.bz_base.specs.declared.plain_values.PlainPair.{PlainPair, fold-PlainP
 
 -- a label as it is printed: `@@`, the canonical name, `//`, the package, `:` and the name
 abbrev pub label_text : Label → List ℕ
-label_text label = codes "@@" ++ (label.repo ++ (codes "//" ++ (label.package ++ (58 ∷ label.name))))
+label_text label = codes "@@"
+    ++ (label.repo ++ (codes "//" ++ (label.package ++ (58 ∷ label.name))))
 
 -- the object with one member
 abbrev pub tagged : List ℕ → Data → Data

@@ -2,7 +2,24 @@
 use Rattle.std.specs.Prelude.{List, [], ℕ, codes}
 use Rattle.bz_base.specs.declared.refusals.Code.{Code}
 use Rattle.bz_base.specs.declared.refusals.Refusal.{Refusal}
-use Rattle.bz_base.specs.declared.refusals.Code.TheVariants.{NoRoot, Lex, Syntax, Dialect, Unbound, Steps, Size, Depth, Fault, Fail, BadValue, ModuleLate, BadName, BadVersion, Left, DoubleOverride, FewVersions, NoVersion, NoModule, BadSource, NameDiffers, SourceNotLocal, TooMany, NotInGraph, Levels, AboveAllowed, NameTaken, BadLabel, NotVisible, HostNotModule, NoRepo, NoFile, LoadCycle, NoName, NoExtension, NoClass, NoAttr, Missing, WrongType, NotAllowed, RepoTwice, NotExported, NotHere, Unsupported, NotText, BadPath, NoFetch, NotGenerated, OverrideMissing, InjectTaken, Cycle, LockBad, TooLarge, Form, Untidy, TidyUnknown, TidyTaken, NotSelected, NoPath, NotMade, VendorBad, NotVendored, VendorDiffers}
+use Rattle.bz_base.specs.declared.refusals.Code.TheVariants.{NoRoot, Lex, Syntax, Dialect, Unbound}
+use Rattle.bz_base.specs.declared.refusals.Code.TheVariants.{Steps, Size, Depth, Fault, Fail}
+use Rattle.bz_base.specs.declared.refusals.Code.TheVariants.{BadValue, ModuleLate, BadName}
+use Rattle.bz_base.specs.declared.refusals.Code.TheVariants.{BadVersion, Left, DoubleOverride}
+use Rattle.bz_base.specs.declared.refusals.Code.TheVariants.{FewVersions, NoVersion, NoModule}
+use Rattle.bz_base.specs.declared.refusals.Code.TheVariants.{BadSource, NameDiffers, SourceNotLocal}
+use Rattle.bz_base.specs.declared.refusals.Code.TheVariants.{TooMany, NotInGraph, Levels}
+use Rattle.bz_base.specs.declared.refusals.Code.TheVariants.{AboveAllowed, NameTaken, BadLabel}
+use Rattle.bz_base.specs.declared.refusals.Code.TheVariants.{NotVisible, HostNotModule, NoRepo}
+use Rattle.bz_base.specs.declared.refusals.Code.TheVariants.{NoFile, LoadCycle, NoName, NoExtension}
+use Rattle.bz_base.specs.declared.refusals.Code.TheVariants.{NoClass, NoAttr, Missing, WrongType}
+use Rattle.bz_base.specs.declared.refusals.Code.TheVariants.{NotAllowed, RepoTwice, NotExported}
+use Rattle.bz_base.specs.declared.refusals.Code.TheVariants.{NotHere, Unsupported, NotText, BadPath}
+use Rattle.bz_base.specs.declared.refusals.Code.TheVariants.{NoFetch, NotGenerated, OverrideMissing}
+use Rattle.bz_base.specs.declared.refusals.Code.TheVariants.{InjectTaken, Cycle, LockBad, TooLarge}
+use Rattle.bz_base.specs.declared.refusals.Code.TheVariants.{Form, Untidy, TidyUnknown, TidyTaken}
+use Rattle.bz_base.specs.declared.refusals.Code.TheVariants.{NotSelected, NoPath, NotMade}
+use Rattle.bz_base.specs.declared.refusals.Code.TheVariants.{VendorBad, NotVendored, VendorDiffers}
 
 -- a refusal of this code with no place and no detail
 abbrev pub refusal_of : Code → Refusal

@@ -1,7 +1,6 @@
 //! What a module file declares. Each `line` is that of the declaring call.
 use crate::plain_values::Named;
-use bz_text::Seq;
-use bz_text::Txt;
+use bz_text::{Seq, Txt};
 
 /// A `bazel_dep`. The `apparent` name is empty for a nodep dependency alone.
 #[derive(Debug, Drop)]
@@ -94,7 +93,8 @@ pub struct Override {
     pub line: u64,
 }
 
-/// A module file's declarations. `nodeps` are the dependencies without a repository name: each asks for a version only if its module is in the graph by other means.
+/// A module file's declarations. `nodeps` are the dependencies without a repository name: each asks
+/// for a version only if its module is in the graph by other means.
 #[derive(Debug, Drop)]
 pub struct ModuleDecl {
     pub name: Txt,

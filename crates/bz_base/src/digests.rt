@@ -3,9 +3,8 @@ ghost use Rattle.std.specs.Prelude.{◌≡◌, IfOk};
 ghost use Rattle.sha2.specs.Sha256.{sha256};
 ghost use Rattle.bz_base.specs.Digests.{digest_base64_text, digest_hex_text};
 
-use bz_text::Mem;
-use bz_text::Txt;
 use base64::engine::general_purpose::STANDARD;
+use bz_text::{Mem, Txt};
 use sha2::{Digest, Sha256};
 use std::alloc::Global;
 

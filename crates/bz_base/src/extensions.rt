@@ -1,8 +1,7 @@
 //! Extensions and the repositories that they declare.
 use crate::labels::Label;
 use crate::plain_values::Named;
-use bz_text::Seq;
-use bz_text::Txt;
+use bz_text::{Seq, Txt};
 
 /// An extension: the file that defines it, and the name under which that exports it.
 #[derive(Debug, Drop)]

@@ -1,11 +1,11 @@
 //! Labels with a canonical repository name.
 ghost use Rattle.std.specs.Prelude.{◌≡◌, ◌↔◌, IfOk, IsTrue};
 
-use bz_text::Mem;
-use bz_text::Txt;
+use bz_text::{Mem, Txt};
 use std::alloc::Global;
 
-/// A file or target: its repository by canonical name, its package there and its name in the package.
+/// A file or target: its repository by canonical name, its package there and its name in the
+/// package.
 #[derive(Debug, Drop)]
 pub struct Label {
     pub repo: Txt,

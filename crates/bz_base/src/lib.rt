@@ -28,9 +28,7 @@ pub use declarations::{
 pub use digests::{digest_base64, digest_hex};
 pub use environment::{EnvPair, EnvTable};
 pub use extensions::{ExtId, Spec};
-pub use label_names::{
-    is_apparent, is_canonical, is_package, is_segment, is_segmented,
-};
+pub use label_names::{is_apparent, is_canonical, is_package, is_segment, is_segmented};
 pub use labels::Label;
 pub use module_graph::{Chosen, Graph, GraphNode, Selected};
 pub use module_key::Key;

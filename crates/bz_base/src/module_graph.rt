@@ -6,7 +6,9 @@ use crate::declarations::ModuleDecl;
 use crate::module_key::Key;
 use bz_text::{Mem, Seq, Txt};
 
-/// A discovered module version. Its needs are the keys that its dependencies mean, one per dependency in order; `nodeps` are the keys that its other nodep dependencies mean, those of the root left out; an empty `registry` is none.
+/// A discovered module version. Its needs are the keys that its dependencies mean, one per
+/// dependency in order; `nodeps` are the keys that its other nodep dependencies mean, those of the
+/// root left out; an empty `registry` is none.
 #[derive(Debug, Drop)]
 pub struct GraphNode {
     pub key: Key,
@@ -36,7 +38,8 @@ pub struct Graph {
     pub nodes: Seq<GraphNode>,
 }
 
-/// A selected module: its place in the graph, and the places of its dependencies among the selected ones.
+/// A selected module: its place in the graph, and the places of its dependencies among the selected
+/// ones.
 #[derive(Debug, Drop)]
 pub struct Chosen {
     pub node: u64,

@@ -1,8 +1,8 @@
 //! Copies of plain values.
 ghost use Rattle.std.specs.Prelude.{◌≡◌, IfOk};
 
-use bz_text::Mem;
 use crate::plain_values::{Plain, PlainPair};
+use bz_text::Mem;
 use sqlite_items::Items;
 use std::alloc::Global;
 

@@ -3,13 +3,12 @@ ghost use Rattle.std.specs.Prelude.{◌≡◌, None, Some, IfNone, IfSome};
 ghost use Rattle.bz_text.specs.Answers.{Gives};
 ghost use Rattle.bz_text.specs.Cuts.{cut, cut_at_root};
 ghost use Rattle.bz_base.specs.PlainLabels;
-ghost use Rattle.bz_base.specs.PlainLabels.{behind_marks, good_label, label_of, rooted_label, target_label};
+ghost use Rattle.bz_base.specs.PlainLabels.{behind_marks, good_label, label_of, rooted_label};
+ghost use Rattle.bz_base.specs.PlainLabels.{target_label};
 
 use crate::label_names::{is_canonical, is_package, is_segmented};
 use crate::labels::Label;
-use bz_text::{May, Miss};
-use bz_text::Txt;
-use bz_text::{cut_at, cut_at_double_slash, text_behind};
+use bz_text::{May, Miss, Txt, cut_at, cut_at_double_slash, text_behind};
 use std::alloc::Global;
 
 /// The JSON is that of no plain value, or of one that is too deep.
@@ -54,7 +53,8 @@ fn read_target(alloc: Global, repo: &str, target: &str) -> May<Label, NotPlain>
 }
 
 fn read_parts(alloc: Global, repo: &str, package: &str, name: &str) -> May<Label, NotPlain>
-    ensures { Gives (good_label (record { repo = repo.now; «package» = «package».now; name = name.now })) result }
+    ensures { Gives (good_label (record { repo = repo.now; «package» = «package».now; name = name.now }))
+        result }
 {
     if !are_parts(repo, package, name) {
         return Err(Miss::Because(NotPlain));
@@ -67,7 +67,12 @@ fn read_parts(alloc: Global, repo: &str, package: &str, name: &str) -> May<Label
 }
 
 fn are_parts(repo: &str, package: &str, name: &str) -> bool
-    ensures { result ≡ PlainLabels.is_label (record { repo = repo.now; «package» = «package».now; name = name.now }) }
+    ensures { result ≡ PlainLabels.is_label (record {
+      repo = repo.now;
+      «package» = «package».now;
+      name =
+          name.now;
+    }) }
 {
     is_canonical(repo)
         && is_package(package)

@@ -4,12 +4,13 @@ ghost use Rattle.serde_json.specs.View.{view, items_view, members_view, number_v
 ghost use Rattle.serde_json.specs.Find.{as_str, as_array};
 ghost use Rattle.bz_text.specs.Answers.{Gives};
 ghost use Rattle.bz_base.specs.PlainReading;
-ghost use Rattle.bz_base.specs.PlainReading.{each_after, integer_of, label_under, pair_of, pairs_under, plain_layer, plain_of, plain_within, tagged_plain, two_of};
+ghost use Rattle.bz_base.specs.PlainReading.{each_after, integer_of, label_under, pair_of};
+ghost use Rattle.bz_base.specs.PlainReading.{pairs_under, plain_layer, plain_of, plain_within};
+ghost use Rattle.bz_base.specs.PlainReading.{tagged_plain, two_of};
 
-use bz_text::{May, Miss};
 use crate::plain_labels::{NotPlain, read_label};
 use crate::plain_values::{Plain, PlainPair};
-use bz_text::Txt;
+use bz_text::{May, Miss, Txt};
 use serde_json::{Map, Number, Value};
 use sqlite_items::Items;
 use std::alloc::Global;
@@ -32,7 +33,8 @@ fn value_within(alloc: Global, value: &Value, depth: usize) -> May<Plain, NotPla
 
 #[cycle(reading)]
 fn level_within(alloc: Global, value: &Value, depth: usize) -> May<Plain, NotPlain>
-    ensures { Gives (plain_layer (PlainReading.items_within depth) (PlainReading.pairs_within depth) (view value.now)) result }
+    ensures { Gives (plain_layer (PlainReading.items_within depth) (PlainReading.pairs_within depth) (view
+        value.now)) result }
 {
     match value {
         Value::Null => Ok(Plain::None),
@@ -60,7 +62,8 @@ fn items_within(alloc: Global, items: &[Value], depth: usize) -> May<Items<Plain
 
 #[cycle(reading)]
 fn object_within(alloc: Global, members: &Map<String, Value>, depth: usize) -> May<Plain, NotPlain>
-    ensures { Gives (tagged_plain (PlainReading.pairs_within depth) (PlainReading.only_member (members_view members.now.entries))) result }
+    ensures { Gives (tagged_plain (PlainReading.pairs_within depth) (PlainReading.only_member
+        (members_view members.now.entries))) result }
 {
     match only_member(members) {
         Some((tag, value)) => tagged_within(alloc, tag, value, depth),
@@ -70,7 +73,8 @@ fn object_within(alloc: Global, members: &Map<String, Value>, depth: usize) -> M
 
 fn only_member(members: &Map<String, Value>) -> Option<(&str, &Value)>
     ensures none { IfNone result (PlainReading.only_member (members_view members.now.entries) ≡ None) }
-    ensures some { IfSome result (λ entry. PlainReading.only_member (members_view members.now.entries) ≡ Some (entry.0.now, view entry.1.now)) }
+    ensures some { IfSome result (λ entry. PlainReading.only_member (members_view members.now.entries) ≡ Some
+        (entry.0.now, view entry.1.now)) }
 {
     let mut entries = members.iter();
     let (tag, value) = entries.next()?;
@@ -82,7 +86,8 @@ fn only_member(members: &Map<String, Value>) -> Option<(&str, &Value)>
 
 #[cycle(reading)]
 fn tagged_within(alloc: Global, tag: &str, value: &Value, depth: usize) -> May<Plain, NotPlain>
-    ensures { Gives (tagged_plain (PlainReading.pairs_within depth) (Some (tag.now, view value.now))) result }
+    ensures { Gives (tagged_plain (PlainReading.pairs_within depth) (Some (tag.now, view value.now)))
+        result }
 {
     if tag == "label" {
         return label_value(alloc, value);

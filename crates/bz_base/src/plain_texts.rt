@@ -5,8 +5,8 @@ ghost use Rattle.serde_json.specs.Data.{array, item, no_items};
 ghost use Rattle.bz_base.specs.PlainTexts.{json_of, json_of_pair, label_text, tagged};
 
 use crate::labels::Label;
-use bz_text::Mem;
 use crate::plain_values::{Plain, PlainPair};
+use bz_text::Mem;
 use serde_json::{Map, Value};
 use std::alloc::Global;
 

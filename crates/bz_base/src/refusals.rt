@@ -136,7 +136,8 @@ pub enum Code {
     VendorDiffers,
 }
 
-/// A refusal and its place. An empty `file` is no place, a `line` of 0 is no line; `hint` is the line at which a fault of the text was met, else 0.
+/// A refusal and its place. An empty `file` is no place, a `line` of 0 is no line; `hint` is the
+/// line at which a fault of the text was met, else 0.
 #[derive(Debug, Drop)]
 pub struct Refusal {
     pub code: Code,

@@ -1,8 +1,11 @@
 //! Paths of the tree, from the workspace or from `/` on.
-ghost use Rattle.std.specs.Prelude.{◌≡◌, ◌==◌, [], ◌∷◌, ◌++◌, List, ℕ, Ok, Result, IfOk, IsTrue, string_bytes, slice_get, length, ◌-◌, flat_map, OnOk};
+ghost use Rattle.std.specs.Prelude.{◌≡◌, ◌==◌, [], ◌∷◌, ◌++◌, List, ℕ, Ok, Result, IfOk, IsTrue};
+ghost use Rattle.std.specs.Prelude.{string_bytes, slice_get, length, ◌-◌, flat_map, OnOk};
 ghost use Rattle.bz_text.specs.Answers.{Gives};
 ghost use Rattle.bz_base.specs.NormalPaths.{is_normal};
-ghost use Rattle.bz_base.specs.Paths.{above, has_nul, is_name, is_rooted, joined, names_joined, resolved, goes_up, segments_of, spelled, stays, stepped, walked};
+ghost use Rattle.bz_base.specs.Paths.{above, has_nul, is_name, is_rooted, joined, names_joined};
+ghost use Rattle.bz_base.specs.Paths.{resolved, goes_up, segments_of, spelled, stays, stepped};
+ghost use Rattle.bz_base.specs.Paths.{walked};
 
 use bz_text::{May, Mem, Miss, Seq, Txt, cut_at};
 use std::alloc::Global;
@@ -12,7 +15,8 @@ use std::marker::Model;
 #[derive(Clone, Copy, Debug, PartialEq, Eq)]
 pub struct BadPath;
 
-/// A path, resolved by its text alone. Contracts see it as its bytes, which are a normal path; the workspace is the empty path.
+/// A path, resolved by its text alone. Contracts see it as its bytes, which are a normal path; the
+/// workspace is the empty path.
 #[derive(Debug, Drop)]
 pub struct TreePath {
     text: Txt,
@@ -39,7 +43,8 @@ impl TreePath {
         }
     }
 
-    /// The path to which a text leads from here; a text that begins with `/` leads there from anywhere.
+    /// The path to which a text leads from here; a text that begins with `/` leads there from
+    /// anywhere.
     pub fn join(&self, alloc: Global, text: &str) -> May<TreePath, BadPath>
         ensures { Gives (joined self.now text.now) result }
     {
@@ -179,7 +184,8 @@ fn push_names(text: &mut String, names: &[Txt]) -> Mem<()>
 }
 
 fn push_further(text: &mut String, names: &[Txt]) -> Mem<()>
-    ensures { OnOk result (string_bytes text.new ≡ string_bytes text.old ++ flat_map (λ further. 47 ∷ further) names.now) }
+    ensures { OnOk result (string_bytes text.new ≡ string_bytes text.old ++ flat_map (λ further. 47 ∷
+        further) names.now) }
 {
     for name in names {
         text.push_str("/")?;

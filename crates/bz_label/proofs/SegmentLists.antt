@@ -10,16 +10,24 @@ use Rattle.bz_text.proofs.CutParts.{parts_at-cut}
 pub segments_of-whole : (text : List ℕ) → cut 47 text ≡ None → segments_of text ≡ text ∷ []
 segments_of-whole text e = rw e at (parts_at-cut 47 text)
 
-pub segments_of-parts : (text xs ys : List ℕ) → cut 47 text ≡ Some (xs, ys) → segments_of text ≡ xs ∷ segments_of ys
+pub segments_of-parts : (text xs ys : List ℕ)
+    → cut 47 text ≡ Some (xs, ys)
+    → segments_of text ≡ xs ∷ segments_of ys
 segments_of-parts text xs ys e = rw e at (parts_at-cut 47 text)
 
-last_of-front : (segment : List ℕ) (segments : List (List ℕ)) → 0 < length segments → last_of (segment ∷ segments) ≡ last_of segments
+last_of-front : (segment : List ℕ) (segments : List (List ℕ))
+    → 0 < length segments
+    → last_of (segment ∷ segments) ≡ last_of segments
 last_of-front segment [] h = absurd (omega arith)
 last_of-front segment (next ∷ segments) h = refl
 
-pub last_segment-parts : (text xs ys : List ℕ) → cut 47 text ≡ Some (xs, ys) → last_segment text ≡ last_segment ys
+pub last_segment-parts : (text xs ys : List ℕ)
+    → cut 47 text ≡ Some (xs, ys)
+    → last_segment text ≡ last_segment ys
 last_segment-parts text xs ys e =
-    ap last_of (segments_of-parts text xs ys e) ∙ last_of-front xs (segments_of ys) (let n = length-slice_split (λ b. eqb b 47) ys in omega arith)
+    ap last_of (segments_of-parts text xs ys e)
+    ∙ last_of-front xs (segments_of ys)
+    (let n = length-slice_split (λ b. eqb b 47) ys in omega arith)
 
 pub last_segment-whole : (text : List ℕ) → cut 47 text ≡ None → last_segment text ≡ text
 last_segment-whole text e = ap last_of (segments_of-whole text e)

@@ -1,5 +1,6 @@
 -- A label's text, taken apart from the front.
-use Rattle.std.specs.Prelude.{ℕ, Bool, ◌&&◌, List, [], ◌∷◌, Result, Ok, Err, Option, None, Some, bytes_eq, if◌then◌else◌}
+use Rattle.std.specs.Prelude.{ℕ, Bool, ◌&&◌, List, [], ◌∷◌, Result, Ok, Err, Option, None, Some}
+use Rattle.std.specs.Prelude.{bytes_eq, if◌then◌else◌}
 use Rattle.std.specs.List.{list_all}
 use Rattle.bz_base.specs.Names.{is_apparent, is_canonical, is_package, is_segment, is_segmented}
 use Rattle.bz_base.specs.Paths.{segments_of}
@@ -47,16 +48,23 @@ repo_of text = if bytes_eq text [] then Ok Home else unmarked_repo (behind 64 te
 
 abbrev pub at_home : List ℕ → Result LabelText BadLabel
 at_home name =
-    if is_segmented name then Ok (record { repo = Home; «package» = None; name = name }) else Err bad_label
+    if is_segmented name then Ok (record { repo = Home; «package» = None; name = name })
+    else Err bad_label
 
 abbrev pub named_target : RepoPart → List ℕ → List ℕ → Result LabelText BadLabel
 named_target repo pkg name =
-    if is_package pkg && is_segmented name then Ok (record { repo = repo; «package» = Some pkg; name = name })
+    if is_package pkg && is_segmented name then Ok (record {
+      repo = repo;
+      «package» = Some pkg;
+      name
+          = name;
+    })
     else Err bad_label
 
 abbrev pub package_target : RepoPart → List ℕ → Result LabelText BadLabel
 package_target repo pkg =
-    if is_segmented pkg then Ok (record { repo = repo; «package» = Some pkg; name = last_segment pkg })
+    if is_segmented pkg then Ok
+    (record { repo = repo; «package» = Some pkg; name = last_segment pkg })
     else Err bad_label
 
 abbrev pub target_parts : RepoPart → List ℕ → Option (List ℕ × List ℕ) → Result LabelText BadLabel
@@ -70,7 +78,8 @@ rooted_parts (Ok repo) target = target_parts repo target (cut 58 target)
 
 abbrev pub repo_named : RepoPart → List ℕ → Result LabelText BadLabel
 repo_named repo name =
-    if is_segment name then Ok (record { repo = repo; «package» = Some []; name = name }) else Err bad_label
+    if is_segment name then Ok (record { repo = repo; «package» = Some []; name = name })
+    else Err bad_label
 
 -- a repository alone, which is the target of its name at its top
 abbrev pub repo_alone : RepoPart → Result LabelText BadLabel

@@ -1,4 +1,5 @@
--- What a label's text means in its home: Bazel's "Labels" and "External dependencies overview", "Repository mapping".
+-- What a label's text means in its home: Bazel's "Labels" and "External dependencies overview",
+-- "Repository mapping".
 use Rattle.std.specs.Prelude.{◌≡◌, ℕ, List, Result, Ok, Err, Option, None, Some, unwrap_or}
 use Rattle.bz_base.specs.declared.labels.Label.{Label}
 use Rattle.bz_label.specs.declared.label_text.BadLabel.{BadLabel as BadText}
@@ -26,7 +27,10 @@ placed home parts (Err miss) = Err miss
 placed home parts (Ok repo) =
     Ok (record { repo = repo; «package» = unwrap_or parts.package home.package; name = parts.name })
 
-abbrev pub located : List (List ℕ × List ℕ) → Label → Result LabelText BadText → Result Label LabelMiss
+abbrev pub located : List (List ℕ × List ℕ)
+    → Label
+    → Result LabelText BadText
+    → Result Label LabelMiss
 located pairs home (Err bad) = Err BadLabel
 located pairs home (Ok parts) = placed home parts (canonical_of pairs home parts.repo)
 
@@ -41,7 +45,8 @@ NamesRepo pairs home (Apparent apparent) repo = found apparent pairs ≡ Some re
 NamesRepo pairs home (Canonical canonical) repo = repo ≡ canonical
 
 -- the text is a label whose parts name this one; where it has no package, that is the home's
-pub record Resolves (pairs : List (List ℕ × List ℕ)) (home : Label) (text : List ℕ) (label : Label) : Type 0 where
+pub record Resolves (pairs : List (List ℕ × List ℕ)) (home : Label) (text : List ℕ)
+    (label : Label) : Type 0 where
   pub parts : LabelText
   pub spelled : SpellsLabel text parts
   pub repository : NamesRepo pairs home parts.repo label.repo

@@ -3,7 +3,9 @@ ghost use Rattle.std.specs.Prelude.{◌≡◌, IfOk, IfErr, List, ℕ, Ok, Some,
 ghost use Rattle.bz_text.specs.Answers.{Gives, UnlessOutOfMemory};
 ghost use Rattle.bz_text.specs.Cuts.{behind, cut, cut_at_root};
 ghost use Rattle.bz_label.specs.Grammar.{SpellsLabel};
-ghost use Rattle.bz_label.specs.Parts.{alone_parts, apparent_repo, at_home, bad_label, canonical_repo, label_parts, named_target, package_target, repo_alone, repo_of, rooted_parts, target_parts};
+ghost use Rattle.bz_label.specs.Parts.{alone_parts, apparent_repo, at_home, bad_label};
+ghost use Rattle.bz_label.specs.Parts.{canonical_repo, label_parts, named_target, package_target};
+ghost use Rattle.bz_label.specs.Parts.{repo_alone, repo_of, rooted_parts, target_parts};
 
 use crate::names::last_name;
 use bz_base::{
@@ -37,8 +39,12 @@ impl LabelText {
     pub fn parse(alloc: Global, text: &str) -> May<LabelText, BadLabel>
         ensures exact { Gives (label_parts text.now) result }
         ensures label { IfOk result (λ parts. SpellsLabel text.now parts) }
-        ensures given { (parts : LabelText) → SpellsLabel text.now parts → UnlessOutOfMemory (λ given. given ≡ Ok parts) result }
-        ensures no_label { result ≡ Err (Miss.Because bad_label) → (parts : LabelText) → ¬ SpellsLabel text.now parts }
+        ensures given { (parts : LabelText)
+            → SpellsLabel text.now parts
+            → UnlessOutOfMemory (λ given. given ≡ Ok parts) result }
+        ensures no_label { result ≡ Err (Miss.Because bad_label)
+            → (parts : LabelText)
+            → ¬ SpellsLabel text.now parts }
     {
         take_apart(alloc, text)
     }

@@ -15,11 +15,17 @@ pub fn what_spells_a_label_is_given()
 
 /// A text is a label in one way at most.
 pub fn a_label_has_one_reading()
-    ensures { (text : List ℕ) (parts other : LabelText) → SpellsLabel text parts → SpellsLabel text other → parts ≡ other }
+    ensures { (text : List ℕ) (parts other : LabelText)
+        → SpellsLabel text parts
+        → SpellsLabel text other
+        → parts ≡ other }
 {}
 
 /// What a text means in a good home under good names is a good label.
 pub fn resolved_labels_are_good()
     ensures { (names : List (List ℕ × List ℕ)) (home label : Label) (text : List ℕ)
-        → IsTrue (are_names names) → IsLabel home → resolved names home text ≡ Ok label → IsLabel label }
+        → IsTrue (are_names names)
+        → IsLabel home
+        → resolved names home text ≡ Ok label
+        → IsLabel label }
 {}

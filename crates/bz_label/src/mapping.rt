@@ -1,5 +1,6 @@
 //! Repository mappings.
-ghost use Rattle.std.specs.Prelude.{◌≡◌, ◌↔◌, ◌<◌, ◌++◌, [], ◌∷◌, Err, None, Some, IsSome, IsTrue, OnOk, OnErr, length, slice_get};
+ghost use Rattle.std.specs.Prelude.{◌≡◌, ◌↔◌, ◌<◌, ◌++◌, [], ◌∷◌, Err, None, Some, IsSome, IsTrue};
+ghost use Rattle.std.specs.Prelude.{OnOk, OnErr, length, slice_get};
 ghost use Rattle.std.specs.Option.{option_copied};
 ghost use Rattle.bz_text.specs.declared.memory.Miss.TheVariants.{Because};
 ghost use Rattle.bz_base.specs.Names.{is_apparent, is_canonical};
@@ -14,7 +15,9 @@ use std::marker::Model;
 #[derive(Clone, Copy, Debug, PartialEq, Eq)]
 pub struct Taken;
 
-/// A map from apparent to canonical repository names. Contracts see it as the list of its pairs, in the order in which their apparent names were put; each name is one that a label may have, and no apparent name stands twice.
+/// A map from apparent to canonical repository names. Contracts see it as the list of its pairs, in
+/// the order in which their apparent names were put; each name is one that a label may have, and no
+/// apparent name stands twice.
 #[derive(Drop)]
 pub struct Mapping {
     names: IndexMap<String, Txt>,
@@ -101,11 +104,13 @@ impl Mapping {
 
 /// Puts a name under an owned text.
 fn insert(names: &mut IndexMap<String, Txt>, apparent: Txt, canonical: Txt) -> Mem<()>
-    ensures ok { OnOk result (pairs_of names.new.entries ≡ put apparent canonical (pairs_of names.old.entries)) }
+    ensures ok { OnOk result (pairs_of names.new.entries ≡ put apparent canonical (pairs_of
+        names.old.entries)) }
     ensures was_absent { OnErr result (found apparent (pairs_of names.old.entries) ≡ None) }
     ensures unchanged { OnErr result (pairs_of names.new.entries ≡ pairs_of names.old.entries) }
     ensures good { IsTrue (is_apparent apparent) → IsTrue (is_canonical canonical)
-        → IsTrue (are_names (pairs_of names.old.entries)) → IsTrue (are_names (pairs_of names.new.entries)) }
+        → IsTrue (are_names (pairs_of names.old.entries))
+        → IsTrue (are_names (pairs_of names.new.entries)) }
 {
     match names.insert(apparent.into_string(), canonical) {
         Ok(_) => Ok(()),

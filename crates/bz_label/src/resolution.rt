@@ -3,7 +3,8 @@ ghost use Rattle.std.specs.Prelude.{◌≡◌, IfOk, IsTrue, List, ℕ, Err};
 ghost use Rattle.bz_text.specs.Answers.{Gives};
 ghost use Rattle.bz_text.specs.declared.memory.Miss.TheVariants.{Because};
 ghost use Rattle.bz_label.specs.Grammar.{SpellsLabel};
-ghost use Rattle.bz_label.specs.Resolution.{Hides, Resolves, canonical_of, placed, resolved, visible};
+ghost use Rattle.bz_label.specs.Resolution.{Hides, Resolves, canonical_of, placed, resolved};
+ghost use Rattle.bz_label.specs.Resolution.{visible};
 ghost use Rattle.bz_base.specs.Labels.{IsLabel};
 ghost use Rattle.bz_label.specs.Mappings.{are_names, found};
 ghost use Rattle.bz_label.specs.declared.label_text.LabelText.{LabelText as Parts};
@@ -26,7 +27,9 @@ pub fn resolve(alloc: Global, map: &Mapping, home: &Label, text: &str) -> May<La
     ensures label { IfOk result (λ label. Resolves map.now home.now text.now label) }
     ensures good { IsTrue (are_names map.now) → IsLabel home.now → IfOk result IsLabel }
     ensures bad_label { result ≡ Err (Because LabelMiss.BadLabel) → (parts : Parts) → ¬ SpellsLabel text.now parts }
-    ensures not_visible { (apparent : List ℕ) → result ≡ Err (Because (LabelMiss.NotVisible apparent)) → Hides map.now text.now apparent }
+    ensures not_visible { (apparent : List ℕ)
+        → result ≡ Err (Because (LabelMiss.NotVisible apparent))
+        → Hides map.now text.now apparent }
 {
     meaning(alloc, map, home, text)
 }

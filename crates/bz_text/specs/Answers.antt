@@ -9,7 +9,8 @@ UnlessOutOfMemory IsAnswer (Ok value) = IsAnswer (Ok value)
 UnlessOutOfMemory IsAnswer (Err (Because reason)) = IsAnswer (Err reason)
 UnlessOutOfMemory IsAnswer (Err OutOfMemory) = ⊤
 
--- the definition's value or its reason, unless memory ran out: `UnlessOutOfMemory (λ given. wanted ≡ given) result`, case by case
+-- the definition's value or its reason, unless memory ran out: `UnlessOutOfMemory (λ given. wanted
+-- ≡ given) result`, case by case
 abbrev pub Gives : {T E : Type 0} → Result T E → Result T (Miss E) → Type 0
 Gives wanted (Ok value) = wanted ≡ Ok value
 Gives wanted (Err (Because reason)) = wanted ≡ Err reason

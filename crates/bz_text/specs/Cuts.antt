@@ -1,5 +1,6 @@
 -- Where a text is cut.
-use Rattle.std.specs.Prelude.{ℕ, ◌==◌, List, [], ◌∷◌, Option, None, Some, option_map, option_and_then, if◌then◌else◌}
+use Rattle.std.specs.Prelude.{ℕ, ◌==◌, List, [], ◌∷◌, Option, None, Some, option_map}
+use Rattle.std.specs.Prelude.{option_and_then, if◌then◌else◌}
 use Rattle.std.specs.List.{slice_split}
 
 -- what stands before the first mark, and what stands behind it
@@ -20,4 +21,5 @@ behind mark (b ∷ bs) = if b == mark then Some bs else None
 -- what stands before the first slash and behind the second, where the two stand together
 abbrev pub cut_at_root : List ℕ → Option (List ℕ × List ℕ)
 cut_at_root text =
-    option_and_then (λ parts. option_map (λ target. (parts.0, target)) (behind 47 parts.1)) (cut 47 text)
+    option_and_then (λ parts. option_map (λ target. (parts.0, target)) (behind 47 parts.1))
+    (cut 47 text)

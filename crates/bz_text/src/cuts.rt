@@ -2,7 +2,8 @@
 ghost use Rattle.std.specs.Prelude.{◌≡◌, ◌<◌, ◌∷◌, [], None, Some, IfNone, IfSome, length};
 ghost use Rattle.bz_text.specs.Cuts.{behind, cut, cut_at_root, parts_at};
 
-/// The text before the first `mark` and the one behind it. Where there is no mark, the text is one part.
+/// The text before the first `mark` and the one behind it. Where there is no mark, the text is one
+/// part.
 pub fn cut_at(text: &str, mark: char) -> Option<(&str, &str)>
     requires { mark < 128 }
     ensures whole { IfNone result (cut mark text.now ≡ None) }

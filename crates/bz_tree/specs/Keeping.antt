@@ -1,5 +1,6 @@
 -- What a keeper tells of a lockfile, and what a replacement leaves.
-use Rattle.std.specs.Prelude.{◌≡◌, ◌⊎◌, ℕ, List, length, nat_le, if◌then◌else◌, Option, Some, None, option_map}
+use Rattle.std.specs.Prelude.{◌≡◌, ◌⊎◌, ℕ, List, length, nat_le, if◌then◌else◌, Option, Some, None}
+use Rattle.std.specs.Prelude.{option_map}
 use Rattle.bz_tree.specs.declared.lock_keeper.Loaded.{Loaded}
 use Rattle.bz_tree.specs.declared.lock_keeper.Loaded.TheVariants.{Bytes, Large, Absent}
 

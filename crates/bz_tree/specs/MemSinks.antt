@@ -1,5 +1,6 @@
 -- A sink in memory, and what its writes answer and leave.
-use Rattle.std.specs.Prelude.{ℕ, ◌-◌, min, Bool, ◌&&◌, not, ◌==◌, if◌then◌else◌, List, ◌++◌, length, take, Result, Ok, Err}
+use Rattle.std.specs.Prelude.{ℕ, ◌-◌, min, Bool, ◌&&◌, not, ◌==◌, if◌then◌else◌, List, ◌++◌, length}
+use Rattle.std.specs.Prelude.{take, Result, Ok, Err}
 use Rattle.bz_base.specs.Counts.{counted}
 use Rattle.bz_tree.specs.declared.faults.Failed.{Failed}
 
@@ -15,10 +16,17 @@ is_full_for sink bytes = sink.room == 0 && not (length bytes == 0)
 
 -- as much of the piece as there is room for
 abbrev pub write_of : MemSinkState → List ℕ → Result ℕ Failed
-write_of sink bytes = if is_full_for sink bytes then Err (record {}) else Ok (min (length bytes) sink.room)
+write_of sink bytes = if is_full_for sink bytes then Err (record {})
+    else Ok (min (length bytes) sink.room)
 
 abbrev pub after_write : MemSinkState → List ℕ → MemSinkState
 after_write sink bytes =
     if is_full_for sink bytes
     then record { written = sink.written; room = sink.room; faults = counted sink.faults }
-    else record { written = sink.written ++ take (min (length bytes) sink.room) bytes; room = sink.room - min (length bytes) sink.room; faults = sink.faults }
+    else record {
+      written = sink.written
+          ++ take (min (length bytes) sink.room) bytes;
+      room = sink.room - min
+          (length bytes) sink.room;
+      faults = sink.faults;
+    }

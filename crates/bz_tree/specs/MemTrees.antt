@@ -1,5 +1,6 @@
 -- What stands in a tree in memory, and what its calls leave.
-use Rattle.std.specs.Prelude.{ℕ, ◌-◌, ◌||◌, ◌&&◌, ◌==◌, Bool, true, false, if◌then◌else◌, List, [], ◌∷◌, ◌++◌, bytes_eq, is_some, Result, Ok, Err}
+use Rattle.std.specs.Prelude.{ℕ, ◌-◌, ◌||◌, ◌&&◌, ◌==◌, Bool, true, false, if◌then◌else◌, List, []}
+use Rattle.std.specs.Prelude.{◌∷◌, ◌++◌, bytes_eq, is_some, Result, Ok, Err}
 use Rattle.std.specs.List.{list_any}
 use Rattle.bz_base.specs.Counts.{counted}
 use Rattle.bz_tree.specs.Plans.{Plan, fails_next, no_plan, one_made}
@@ -19,7 +20,8 @@ abbrev pub after_puts : List Put → List ℕ → Found → Found
 after_puts [] there before = before
 after_puts (put ∷ puts) there before = after_puts puts there (after_put put there before)
 
--- a tree in memory: the files put, its reads and its placings, the count of failed reads and the path of the last, the count of failed placings, and for how many more there is room
+-- a tree in memory: the files put, its reads and its placings, the count of failed reads and the
+-- path of the last, the count of failed placings, and for how many more there is room
 pub record MemTreeState : Type 0 where
   pub puts : List Put
   pub reads : Plan
@@ -32,7 +34,16 @@ pub record MemTreeState : Type 0 where
 -- the empty tree
 abbrev pub empty_tree : MemTreeState
 empty_tree =
-    record { puts = []; reads = no_plan; placings = no_plan; faults = 0; failed = []; failed_places = 0; spare = 0 }
+    record {
+      puts = [];
+      reads = no_plan;
+      placings = no_plan;
+      faults = 0;
+      failed = [];
+      failed_places
+          = 0;
+      spare = 0;
+    }
 
 -- what stands at a path of the tree
 abbrev pub found_in : MemTreeState → List ℕ → Found
@@ -64,7 +75,8 @@ is_directory Absent = false
 -- whether a file stands somewhere once a file was put, by whether one stood there
 abbrev pub file_after : Put → List ℕ → Bool → Bool
 file_after put there before =
-    if bytes_eq there put.path then true else (if is_some (next_name there put.path) then false else before)
+    if bytes_eq there put.path then true
+    else (if is_some (next_name there put.path) then false else before)
 
 abbrev pub file_after_each : List Put → List ℕ → Bool → Bool
 file_after_each [] there before = before
@@ -73,19 +85,23 @@ file_after_each (put ∷ puts) there before = file_after_each puts there (file_a
 -- the same of a directory
 abbrev pub directory_after : Put → List ℕ → Bool → Bool
 directory_after put there before =
-    if bytes_eq there put.path then false else (if is_some (next_name there put.path) then true else before)
+    if bytes_eq there put.path then false
+    else (if is_some (next_name there put.path) then true else before)
 
 abbrev pub directory_after_each : List Put → List ℕ → Bool → Bool
 directory_after_each [] there before = before
-directory_after_each (put ∷ puts) there before = directory_after_each puts there (directory_after put there before)
+directory_after_each (put ∷ puts) there before = directory_after_each puts there
+    (directory_after put there before)
 
 -- a put's path leads on to the other path, and a file stands there now
 abbrev pub is_file_above : List Put → List ℕ → Put → Bool
-is_file_above puts path put = is_some (next_name put.path path) && is_file (after_puts puts put.path Absent)
+is_file_above puts path put = is_some (next_name put.path path)
+    && is_file (after_puts puts put.path Absent)
 
 -- a directory stands in the file's place, or a file in a directory's
 abbrev pub is_blocked_by : List Put → List ℕ → Bool
-is_blocked_by puts path = is_directory (after_puts puts path Absent) || list_any (is_file_above puts path) puts
+is_blocked_by puts path = is_directory (after_puts puts path Absent)
+    || list_any (is_file_above puts path) puts
 
 -- the next placing fails
 abbrev pub refuses : MemTreeState → List ℕ → Bool
@@ -94,7 +110,12 @@ refuses tree path = fails_next tree.placings || is_blocked_by tree.puts path
 -- the tree behind a placing that succeeds, and behind one that fails
 abbrev pub after_place : MemTreeState → Put → MemTreeState
 after_place tree put =
-    record tree { puts = tree.puts ++ put ∷ []; placings = one_made tree.placings; spare = tree.spare - 1 }
+    record tree {
+      puts = tree.puts
+          ++ put ∷ [];
+      placings = one_made tree.placings;
+      spare = tree.spare - 1;
+    }
 
 abbrev pub after_failed_place : MemTreeState → MemTreeState
 after_failed_place tree =

@@ -1,9 +1,16 @@
--- The answer and the state that a call of an object in memory leaves. Want of memory may come instead, and then leaves the object as it was.
+-- The answer and the state that a call of an object in memory leaves. Want of memory may come
+-- instead, and then leaves the object as it was.
 use Rattle.std.specs.Prelude.{◌≡◌, Result, Ok, Err}
 use Rattle.bz_tree.specs.declared.faults.OutsideFault.{OutsideFault}
 use Rattle.bz_tree.specs.declared.faults.OutsideFault.TheVariants.{Failed, OutOfMemory}
 
-abbrev pub IsOutcome : {T S : Type 0} → Result T OutsideFault → S → S → Result T OutsideFault → S → Type 0
+abbrev pub IsOutcome : {T S : Type 0}
+    → Result T OutsideFault
+    → S
+    → S
+    → Result T OutsideFault
+    → S
+    → Type 0
 IsOutcome answer after before (Ok value) now = (answer ≡ Ok value) × (now ≡ after)
 IsOutcome answer after before (Err Failed) now = (answer ≡ Err Failed) × (now ≡ after)
 IsOutcome answer after before (Err OutOfMemory) now = now ≡ before

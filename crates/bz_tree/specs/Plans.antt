@@ -18,7 +18,11 @@ one_made plan = record { made = counted plan.made; failing = plan.failing }
 
 -- the nth call from now fails too
 abbrev pub with_failing : Plan → ℕ → Plan
-with_failing plan nth = record { made = plan.made; failing = plan.failing ++ min (plan.made + nth) last_count ∷ [] }
+with_failing plan nth = record {
+  made = plan.made;
+  failing = plan.failing
+      ++ min (plan.made + nth) last_count ∷ [];
+}
 
 -- no call was made, and none fails
 abbrev pub no_plan : Plan

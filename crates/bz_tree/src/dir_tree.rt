@@ -11,7 +11,9 @@ use std::io::{ErrorKind, Read};
 use std::rt::Files;
 use std::{fs, io};
 
-/// The file system, from the working directory on. It tells no content. Links are followed; what is neither a file nor a directory fails and is never opened, so that no run waits for a pipe, and so does a directory with a name that isn't UTF-8.
+/// The file system, from the working directory on. It tells no content. Links are followed; what is
+/// neither a file nor a directory fails and is never opened, so that no run waits for a pipe, and
+/// so does a directory with a name that isn't UTF-8.
 #[derive(Drop)]
 pub struct DirTree<'a, R: Files + AllocGlobal + Clone + Drop> {
     rt: &'a R,

@@ -1,7 +1,8 @@
 //! The gate that workers pass.
 use std::marker::Sync;
 
-/// Called by a worker before and after each turn of a job. A gate answers nothing, and so changes no answer of a run.
+/// Called by a worker before and after each turn of a job. A gate answers nothing, and so changes
+/// no answer of a run.
 pub trait Gate: Sync {
     fn entered(&self, job: &str);
 

@@ -1,4 +1,6 @@
-//! What lies outside a run: the tree of files, the keeper of the lockfile, the sinks of text and the gate of workers. Each is a trait with a meaning, and has an object in memory; the real tree and the real sinks are the trusted edge.
+//! What lies outside a run: the tree of files, the keeper of the lockfile, the sinks of text and
+//! the gate of workers. Each is a trait with a meaning, and has an object in memory; the real tree
+//! and the real sinks are the trusted edge.
 #![tactic(auto)]
 
 pub mod dir_tree;

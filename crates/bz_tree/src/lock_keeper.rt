@@ -20,7 +20,8 @@ pub enum Loaded {
 
 /// The keeper of a lockfile.
 ///
-/// `held` is the lockfile's bytes, or that there is none, where the keeper tells it; `faults` counts the calls that failed.
+/// `held` is the lockfile's bytes, or that there is none, where the keeper tells it; `faults`
+/// counts the calls that failed.
 pub trait LockKeeper {
     ghost held: { Self → Option (Option (List ℕ)) };
 

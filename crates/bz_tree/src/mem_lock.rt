@@ -1,5 +1,6 @@
 //! A lockfile in memory.
-ghost use Rattle.std.specs.Prelude.{◌≡◌, ◌≤◌, ◌↔◌, true, false, List, ℕ, Option, Some, None, IfOk, IfSome, IsOk, IsNone, IsErrOf, OnErr, OnOk};
+ghost use Rattle.std.specs.Prelude.{◌≡◌, ◌≤◌, ◌↔◌, true, false, List, ℕ, Option, Some, None, IfOk};
+ghost use Rattle.std.specs.Prelude.{IfSome, IsOk, IsNone, IsErrOf, OnErr, OnOk};
 ghost use Rattle.bz_base.specs.Counts.{Rose};
 ghost use Rattle.bz_tree.specs.Keeping.{IsOldOrNew, loaded_of, replaced};
 ghost use Rattle.bz_tree.specs.MemLocks.{after_load, after_replace, load_of};
@@ -25,7 +26,12 @@ impl Model for MemLock {
 
     ghost Value = { MemLockState };
 
-    ghost view = { λ l. record { held = l.held; fails_load = l.fails_load; fails_replace = l.fails_replace; faults = l.faults } };
+    ghost view = { λ l. record {
+      held = l.held;
+      fails_load = l.fails_load;
+      fails_replace = l.fails_replace;
+      faults = l.faults;
+    } };
 }
 
 impl MemLock {
@@ -62,7 +68,8 @@ impl LockKeeper for MemLock {
     ghost faults = { λ l. l.faults };
 
     fn load(&mut self, alloc: Global) -> Result<Loaded, OutsideFault>
-        ensures told { IfSome (Some self.old.held) (λ lockfile. IfOk result (λ loaded. loaded ≡ loaded_of lockfile)) }
+        ensures told { IfSome (Some self.old.held)
+            (λ lockfile. IfOk result (λ loaded. loaded ≡ loaded_of lockfile)) }
         ensures held_kept { Some self.new.held ≡ Some self.old.held }
         ensures count_never_falls { self.old.faults ≤ self.new.faults }
         ensures failed_only_counted { IsErrOf result OutsideFault.Failed → Rose self.old.faults self.new.faults }

@@ -30,7 +30,8 @@ impl Model for MemSink {
 }
 
 impl MemSink {
-    /// An empty sink with room for so many bytes, which are taken from memory now, so that no write wants any.
+    /// An empty sink with room for so many bytes, which are taken from memory now, so that no write
+    /// wants any.
     pub fn new(alloc: Global, room: u64) -> Mem<MemSink>
         ensures { IfOk result (λ sink. sink ≡ record { written = []; room = room; faults = 0 }) }
     {

@@ -1,12 +1,17 @@
 //! A tree in memory.
-ghost use Rattle.std.specs.Prelude.{◌≡◌, ◌≤◌, ◌<◌, ◌+◌, ◌-◌, ◌++◌, ◌↔◌, ◌||◌, [], ◌∷◌, ℕ, List, Option, Some, IfErr, IfOk, IfSome, IsErr, IsErrOf, IsTrue, OnErr, OnOk, bytes_eq, is_some, length, max, option_copied};
+ghost use Rattle.std.specs.Prelude.{◌≡◌, ◌≤◌, ◌<◌, ◌+◌, ◌-◌, ◌++◌, ◌↔◌, ◌||◌, [], ◌∷◌, ℕ, List};
+ghost use Rattle.std.specs.Prelude.{Option, Some, IfErr, IfOk, IfSome, IsErr, IsErrOf, IsTrue};
+ghost use Rattle.std.specs.Prelude.{OnErr, OnOk, bytes_eq, is_some, length, max, option_copied};
 ghost use Rattle.std.specs.List.{list_any};
 ghost use Rattle.bz_base.specs.Counts.{Rose, counted};
 ghost use Rattle.bz_tree.specs.MemTrees as spec;
-ghost use Rattle.bz_tree.specs.MemTrees.{after_failed_place, after_place, after_put, after_puts, after_read, empty_tree, found_in, read_of, refuses};
+ghost use Rattle.bz_tree.specs.MemTrees.{after_failed_place, after_place, after_put, after_puts};
+ghost use Rattle.bz_tree.specs.MemTrees.{after_read, empty_tree, found_in, read_of, refuses};
 ghost use Rattle.bz_tree.specs.Plans.{with_failing};
 ghost use Rattle.bz_tree.specs.Outcomes.{IsOutcome};
-ghost use Rattle.bz_tree.specs.Places.{IsPlaced, IsPlacedInPart, after_file, file_of, first_name, index_of, next_name, path_behind, stripped, with_name, with_next};
+ghost use Rattle.bz_tree.specs.Places.{IsPlaced, IsPlacedInPart, after_file, file_of, first_name};
+ghost use Rattle.bz_tree.specs.Places.{index_of, next_name, path_behind, stripped, with_name};
+ghost use Rattle.bz_tree.specs.Places.{with_next};
 ghost use Rattle.bz_tree.specs.Reads as reads;
 ghost use Rattle.bz_tree.specs.Reads.{IsReadable, failed_path_after, largest_file};
 
@@ -24,7 +29,8 @@ pub(crate) struct Put {
     bytes: Seq<u8>,
 }
 
-/// A tree in memory, whose reads and placings fail only as planned, and placings besides where a directory stands in the file's place or a file in a directory's.
+/// A tree in memory, whose reads and placings fail only as planned, and placings besides where a
+/// directory stands in the file's place or a file in a directory's.
 #[derive(Debug, Drop)]
 pub struct MemTree {
     puts: Vec<Put>,
@@ -81,7 +87,9 @@ impl MemTree {
 
     /// Plans that the nth placing from now fails too, the next one being the first.
     pub fn fail_place(&mut self, nth: u64) -> Mem<()>
-        ensures planned { OnOk result (self.new ≡ record self.old { placings = with_failing self.old.placings nth }) }
+        ensures planned { OnOk result (self.new ≡ record self.old {
+          placings = with_failing self.old.placings nth;
+        }) }
         ensures unchanged { OnErr result (self.new ≡ self.old) }
     {
         self.placings.fail(nth)
@@ -89,8 +97,17 @@ impl MemTree {
 
     /// Puts a file, whatever stood at its path, and the directories above it.
     pub fn put(&mut self, alloc: Global, path: TreePath, bytes: &[u8]) -> Mem<()>
-        ensures put { OnOk result (self.new ≡ record self.old { puts = self.old.puts ++ record { path = path; bytes = bytes.now } ∷ [] }) }
-        ensures stands { OnOk result ((there : List ℕ) → found_in self.new there ≡ after_put (record { path = path; bytes = bytes.now }) there (found_in self.old there)) }
+        ensures put { OnOk result (self.new ≡ record self.old {
+          puts = self.old.puts ++ record {
+            path = path;
+            bytes = bytes.now;
+          } ∷ [];
+        }) }
+        ensures stands { OnOk result ((there : List ℕ) → found_in self.new there ≡ after_put (record {
+          path =
+              path;
+          bytes = bytes.now;
+        }) there (found_in self.old there)) }
         ensures unchanged { OnErr result (self.new ≡ self.old) }
     {
         let bytes = copied(alloc, bytes)?;
@@ -140,7 +157,8 @@ impl Tree for MemTree {
         ensures spare_kept { self.new.spare ≡ self.old.spare }
 
         // As planned, and in no other way.
-        ensures planned { IsOutcome (read_of self.old path.now) (after_read self.old path.now) self.old result self.new }
+        ensures planned { IsOutcome (read_of self.old path.now)
+            (after_read self.old path.now) self.old result self.new }
     {
         if self.reads.fails_next() {
             self.failed = path.copy(alloc)?;
@@ -174,7 +192,8 @@ impl Tree for MemTree {
         requires small { length bytes ≤ largest_file }
         requires room { 0 < self.old.spare }
         ensures placed { OnOk result (IsPlaced (Some (found_in self.old)) path bytes (Some (found_in self.new))) }
-        ensures in_part { OnErr result (IsPlacedInPart (Some (found_in self.old)) path bytes (Some (found_in self.new))) }
+        ensures in_part { OnErr result (IsPlacedInPart (Some (found_in self.old)) path bytes (Some (found_in
+            self.new))) }
         ensures handed_back { IfErr result (λ back. back ≡ path) }
         ensures count_never_falls { self.old.failed_places ≤ self.new.failed_places }
         ensures failed_only_counted { OnErr result (Rose self.old.failed_places self.new.failed_places) }

@@ -7,7 +7,8 @@ use crate::faults::Failed;
 
 /// A sink of bytes, written piece by piece.
 ///
-/// `written` is what was written so far, where the sink tells it; `faults` counts the writes that failed or took nothing of a piece.
+/// `written` is what was written so far, where the sink tells it; `faults` counts the writes that
+/// failed or took nothing of a piece.
 pub trait Sink {
     ghost written: { Self → Option (List ℕ) };
 

@@ -6,7 +6,8 @@ use crate::sink::Sink;
 use std::io;
 use std::io::Write;
 
-/// A sink over a writer. It tells no content. Each piece is flushed before it counts as taken, so that a device that is full fails even a short text.
+/// A sink over a writer. It tells no content. Each piece is flushed before it counts as taken, so
+/// that a device that is full fails even a short text.
 #[derive(Drop)]
 pub struct StdSink<W: Write + Drop> {
     writer: W,

@@ -1,5 +1,6 @@
 //! The tree of files.
-ghost use Rattle.std.specs.Prelude.{◌≡◌, ◌≤◌, ◌<◌, ◌+◌, ℕ, List, Option, IfSome, IfOk, IfErr, IsErrOf, OnErr, OnOk, length};
+ghost use Rattle.std.specs.Prelude.{◌≡◌, ◌≤◌, ◌<◌, ◌+◌, ℕ, List, Option, IfSome, IfOk, IfErr};
+ghost use Rattle.std.specs.Prelude.{IsErrOf, OnErr, OnOk, length};
 ghost use Rattle.bz_base.specs.Counts.{Rose};
 ghost use Rattle.bz_tree.specs.declared.tree.Found.{Found};
 ghost use Rattle.bz_tree.specs.Places.{IsPlaced, IsPlacedInPart};
@@ -12,7 +13,8 @@ use std::alloc::Global;
 /// The most bytes of a file that is read or placed, 16 MiB.
 pub const LARGEST_FILE: usize = 16_777_216;
 
-/// What stands at a path: a file's bytes, a file of more than 16 MiB, the names in a directory in byte order, or nothing.
+/// What stands at a path: a file's bytes, a file of more than 16 MiB, the names in a directory in
+/// byte order, or nothing.
 #[derive(Debug, Drop)]
 pub enum Found {
     Bytes(Seq<u8>),
@@ -23,7 +25,9 @@ pub enum Found {
 
 /// A tree of files, read path by path.
 ///
-/// `files` is what stands at each path, where the tree tells it. `faults` counts the reads that failed, and `failed` is the path of the last of them, or the empty path. `failed_places` counts the files that could not be placed, and for `spare` more there is room.
+/// `files` is what stands at each path, where the tree tells it. `faults` counts the reads that
+/// failed, and `failed` is the path of the last of them, or the empty path. `failed_places` counts
+/// the files that could not be placed, and for `spare` more there is room.
 pub trait Tree {
     ghost files: { Self → Option (List ℕ → Found) };
 
@@ -55,7 +59,8 @@ pub trait Tree {
         ensures failed_kept { failed self.new ≡ failed self.old }
         ensures failed_places_kept { failed_places self.new ≡ failed_places self.old };
 
-    /// Puts a file at a path, with the directories above it, or hands the path back. Takes no memory.
+    /// Puts a file at a path, with the directories above it, or hands the path back. Takes no
+    /// memory.
     fn place(&mut self, path: TreePath, bytes: Seq<u8>) -> Result<(), TreePath>
         requires small { length bytes ≤ largest_file }
         requires room { 0 < spare self.old }

@@ -1,5 +1,6 @@
 -- Where a text is cut at its first mark.
-use Rattle.std.proofs.Common.{◌≡◌, ◌≢◌, ℕ, suc, ◌<◌, ◌==◌, false, List, [], ◌∷◌, ◌++◌, length, get_or, Some, None, refl, ap, sym, arith, inl, inr, eq-eqb}
+use Rattle.std.proofs.Common.{◌≡◌, ◌≢◌, ℕ, suc, ◌<◌, ◌==◌, false, List, [], ◌∷◌, ◌++◌, length}
+use Rattle.std.proofs.Common.{get_or, Some, None, refl, ap, sym, arith, inl, inr, eq-eqb}
 use Rattle.std.proofs.lemmas.Bool.{cases_Bool, eqb-true}
 use Rattle.std.specs.List.{AllByRecursion}
 use Rattle.bz_text.specs.Cuts.{cut}
@@ -23,21 +24,30 @@ pub behind-absent : (mark : ℕ) (text : List ℕ) → Absent mark text → behi
 behind-absent mark [] a = refl
 behind-absent mark (b ∷ rest) a = rw a.0 (behind-absent mark rest a.1)
 
-pub before-mark : (mark : ℕ) (front rest : List ℕ) → Absent mark front → before mark (front ++ mark ∷ rest) ≡ front
+pub before-mark : (mark : ℕ) (front rest : List ℕ)
+    → Absent mark front
+    → before mark (front ++ mark ∷ rest) ≡ front
 before-mark mark [] rest a = rw (eq-eqb mark mark refl) refl
-before-mark mark (b ∷ front) rest a = rw a.0 (ap (λ (l : List ℕ). b ∷ l) (before-mark mark front rest a.1))
+before-mark mark (b ∷ front) rest a = rw a.0
+    (ap (λ (l : List ℕ). b ∷ l) (before-mark mark front rest a.1))
 
-pub behind-mark : (mark : ℕ) (front rest : List ℕ) → Absent mark front → behind mark (front ++ mark ∷ rest) ≡ Some rest
+pub behind-mark : (mark : ℕ) (front rest : List ℕ)
+    → Absent mark front
+    → behind mark (front ++ mark ∷ rest) ≡ Some rest
 behind-mark mark [] rest a = rw (eq-eqb mark mark refl) refl
 behind-mark mark (b ∷ front) rest a = rw a.0 (behind-mark mark front rest a.1)
 
 -- the two cuts of a text, by where it is cut
-pub before-cut : (mark : ℕ) (text front rest : List ℕ) → cut mark text ≡ Some (front, rest) → front ≡ before mark text
+pub before-cut : (mark : ℕ) (text front rest : List ℕ)
+    → cut mark text ≡ Some (front, rest)
+    → front ≡ before mark text
 before-cut mark text front rest e =
     let parts : IsCut mark text (Some (front, rest)) = rw e at (IsCut-cut mark text) in
     sym (rw parts.0 (before-mark mark front rest (absent-Lacks mark front parts.1)))
 
-pub behind-cut : (mark : ℕ) (text front rest : List ℕ) → cut mark text ≡ Some (front, rest) → Some rest ≡ behind mark text
+pub behind-cut : (mark : ℕ) (text front rest : List ℕ)
+    → cut mark text ≡ Some (front, rest)
+    → Some rest ≡ behind mark text
 behind-cut mark text front rest e =
     let parts : IsCut mark text (Some (front, rest)) = rw e at (IsCut-cut mark text) in
     sym (rw parts.0 (behind-mark mark front rest (absent-Lacks mark front parts.1)))

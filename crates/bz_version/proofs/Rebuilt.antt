@@ -1,5 +1,6 @@
 -- A text comes back from its identifiers.
-use Rattle.std.proofs.Common.{◌≡◌, ℕ, ◌==◌, List, [], ◌∷◌, ◌++◌, Option, Some, None, refl, sym, ap, ◌∙◌, inl, inr}
+use Rattle.std.proofs.Common.{◌≡◌, ℕ, ◌==◌, List, [], ◌∷◌, ◌++◌, Option, Some, None, refl, sym, ap}
+use Rattle.std.proofs.Common.{◌∙◌, inl, inr}
 use Rattle.std.proofs.lemmas.Bool.{cases_Bool, eqb-true}
 use Rattle.bz_version.proofs.Marks.{dots_cut}
 use Rattle.bz_version.specs.Grammar.{Parts}
@@ -11,7 +12,8 @@ abbrev from_mark : ℕ → Option (List ℕ) → List ℕ
 from_mark mark None = []
 from_mark mark (Some rest) = mark ∷ rest
 
-before-from_mark : (mark : ℕ) (text : List ℕ) → before mark text ++ from_mark mark (behind mark text) ≡ text
+before-from_mark : (mark : ℕ) (text : List ℕ)
+    → before mark text ++ from_mark mark (behind mark text) ≡ text
 before-from_mark mark [] = refl
 before-from_mark mark (b ∷ rest) = elim (cases_Bool (b == mark)) [
   | inl same ↦ rw same (ap (λ (c : ℕ). c ∷ rest) (sym (eqb-true b mark same)))
@@ -23,7 +25,8 @@ dotted-between_dots [] = refl
 dotted-between_dots (b ∷ rest) = elim (cases_Bool (b == dot)) [
   | inl same ↦
       let more = rw (dots_cut rest) at (dotted-between_dots rest) in
-      rw (same, dots_cut rest) (ap (λ (l : List ℕ). dot ∷ l) more ∙ ap (λ (c : ℕ). c ∷ rest) (sym (eqb-true b dot same)))
+      rw (same, dots_cut rest)
+      (ap (λ (l : List ℕ). dot ∷ l) more ∙ ap (λ (c : ℕ). c ∷ rest) (sym (eqb-true b dot same)))
   | inr other ↦
       let more = rw (dots_cut rest) at (dotted-between_dots rest) in
       rw (other, dots_cut rest) (ap (λ (l : List ℕ). b ∷ l) more)
@@ -34,9 +37,11 @@ abbrev prerelease_text : List (List ℕ) → List ℕ
 prerelease_text [] = []
 prerelease_text (x ∷ xs) = dash ∷ dotted (x ∷ xs)
 
-prerelease_text-identifiers : (part : Option (List ℕ)) → prerelease_text (identifiers part) ≡ from_mark dash part
+prerelease_text-identifiers : (part : Option (List ℕ))
+    → prerelease_text (identifiers part) ≡ from_mark dash part
 prerelease_text-identifiers None = refl
-prerelease_text-identifiers (Some text) = rw (dots_cut text) (ap (λ (l : List ℕ). dash ∷ l) (rw (dots_cut text) at (dotted-between_dots text)))
+prerelease_text-identifiers (Some text) = rw (dots_cut text)
+    (ap (λ (l : List ℕ). dash ∷ l) (rw (dots_cut text) at (dotted-between_dots text)))
 
 abbrev rebuilt : Parts → List ℕ
 rebuilt version = dotted version.release ++ prerelease_text version.prerelease

@@ -1,4 +1,5 @@
--- Which version is below another, by the first place where they differ: Bazel, "Bazel modules", section "Version format"; SemVer 2.0.0, section 11.
+-- Which version is below another, by the first place where they differ: Bazel, "Bazel modules",
+-- section "Version format"; SemVer 2.0.0, section 11.
 use Rattle.std.specs.Prelude.{◌≡◌, ℕ, ◌<◌, Bool, true, false, ◌⊎◌, List, [], ◌∷◌, ◌++◌, ⊤}
 use Rattle.bz_version.specs.Digits.{is_numeric, number_of}
 use Rattle.bz_version.specs.Grammar.{Parts}
@@ -25,7 +26,8 @@ IsTextBelow first second = DiffersBelow (λ b c. b < c) first second
 
 -- digits by the numbers that they write, and of one number by their bytes
 abbrev pub IsNumberBelow : List ℕ → List ℕ → Type 0
-IsNumberBelow first second = (number_of first < number_of second) ⊎ ((number_of first ≡ number_of second) × IsTextBelow first second)
+IsNumberBelow first second = (number_of first < number_of second)
+    ⊎ ((number_of first ≡ number_of second) × IsTextBelow first second)
 
 -- by whether the first and the second identifier are digits alone
 abbrev pub IsBelowByKind : Bool → Bool → List ℕ → List ℕ → Type 0
@@ -46,4 +48,5 @@ IsPartBelow (x ∷ xs) (y ∷ ys) = DiffersBelow IsIdentifierBelow (x ∷ xs) (y
 
 -- RELEASE decides, and of one RELEASE PRERELEASE
 abbrev pub IsBelow : Parts → Parts → Type 0
-IsBelow first second = IsPartBelow first.release second.release ⊎ ((first.release ≡ second.release) × IsPartBelow first.prerelease second.prerelease)
+IsBelow first second = IsPartBelow first.release second.release
+    ⊎ ((first.release ≡ second.release) × IsPartBelow first.prerelease second.prerelease)

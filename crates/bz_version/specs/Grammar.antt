@@ -1,5 +1,6 @@
 -- The texts of versions: Bazel, "Bazel modules", section "Version format".
-use Rattle.std.specs.Prelude.{◌≡◌, ℕ, ◌+◌, ◌<◌, ◌≤◌, length, take, ◌==◌, ◌||◌, Bool, true, List, [], ◌∷◌, ◌++◌}
+use Rattle.std.specs.Prelude.{◌≡◌, ℕ, ◌+◌, ◌<◌, ◌≤◌, length, take, ◌==◌, ◌||◌, Bool, true, List, []}
+use Rattle.std.specs.Prelude.{◌∷◌, ◌++◌}
 use Rattle.std.specs.Char.{is_ascii_alphanumeric}
 use Rattle.std.specs.List.{AllByRecursion}
 use Rattle.bz_version.specs.Texts.{dash, dot, dotted, marked, plus}
@@ -42,7 +43,8 @@ IsVersion text = (version : Parts) × (build : List ℕ) × Spells text version 
 abbrev pub CanFollow : List ℕ → Type 0
 CanFollow text = (more : List ℕ) × IsVersion (text ++ more)
 
--- the place of a text's fault: a version can follow what stands before it, and none can follow it; at the length the text breaks off too early
+-- the place of a text's fault: a version can follow what stands before it, and none can follow it;
+-- at the length the text breaks off too early
 pub record IsFault (text : List ℕ) (place : ℕ) : Type 0 where
   pub within : place ≤ length text
   pub goes_on : CanFollow (take place text)

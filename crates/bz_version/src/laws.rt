@@ -23,13 +23,16 @@ pub fn order_tells_texts_apart()
 /// Any two versions compare, and the other way round alike.
 #[tactic(auto, using(crate::proofs::Orders::precedence_turned))]
 pub fn order_turns_round()
-    ensures { (first second : List ℕ) → precedence second first ≡ ordering_reverse (precedence first second) }
+    ensures { (first second : List ℕ)
+        → precedence second first ≡ ordering_reverse (precedence first second) }
 {}
 
 /// What is below a version is below all that is above it.
 #[tactic(auto, using(crate::proofs::Orders::precedence_chained))]
 pub fn order_is_transitive()
-    ensures { (first second third : List ℕ) → precedence first second ≡ Less → precedence second third ≡ Less
+    ensures { (first second third : List ℕ)
+        → precedence first second ≡ Less
+        → precedence second third ≡ Less
         → precedence first third ≡ Less }
 {}
 
@@ -41,7 +44,8 @@ pub fn empty_version_is_above()
 
 /// The order is decided at the first place where two versions differ.
 pub fn first_difference_decides()
-    ensures { (first second : List ℕ) → (precedence first second ≡ Less) ↔ IsBelow (parts_of first) (parts_of second) }
+    ensures { (first second : List ℕ)
+        → (precedence first second ≡ Less) ↔ IsBelow (parts_of first) (parts_of second) }
 {}
 
 /// What is read is spelled as the grammar has it, by the identifiers that the order sees.
@@ -62,7 +66,9 @@ pub fn kept_text_is_read_again()
     ensures { (text kept : List ℕ) → version_of text ≡ Ok kept → version_of kept ≡ Ok kept }
 {}
 
-/// Nothing is read exactly where the grammar spells nothing, and the place is that of the first byte after which no version can follow, or the length.
+/// Nothing is read exactly where the grammar spells nothing, and the place is that of the first
+/// byte after which no version can follow, or the length.
 pub fn fault_is_first()
-    ensures { (text : List ℕ) (fault : BadVersion) → (version_of text ≡ Err fault) ↔ IsFault text fault.place }
+    ensures { (text : List ℕ) (fault : BadVersion)
+        → (version_of text ≡ Err fault) ↔ IsFault text fault.place }
 {}

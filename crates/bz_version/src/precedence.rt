@@ -4,7 +4,8 @@ ghost use Rattle.std.specs.Option.{option_copied};
 ghost use Rattle.std.specs.Cmp.Lexicographic.{slice_cmp};
 ghost use Rattle.bz_version.specs.Texts.{behind, between_dots, dash};
 ghost use Rattle.bz_version.specs.Digits.{is_numeric, significant};
-ghost use Rattle.bz_version.specs.Precedence.{identifier_order, identifiers, numeric_order, part_order, precedence, release_of};
+ghost use Rattle.bz_version.specs.Precedence.{identifier_order, identifiers, numeric_order};
+ghost use Rattle.bz_version.specs.Precedence.{part_order, precedence, release_of};
 
 use crate::cuts::cut;
 use std::cmp::Ordering;
@@ -33,7 +34,8 @@ fn parts_of(text: &str) -> (Option<&str>, Option<&str>)
 
 #[tactic(auto, using(crate::proofs::Marks::dots_cut))]
 fn compare_parts(first: Option<&str>, second: Option<&str>) -> Ordering
-    ensures { result ≡ part_order (identifiers (option_copied first.entry)) (identifiers (option_copied second.entry)) }
+    ensures { result ≡ part_order (identifiers (option_copied first.entry)) (identifiers (option_copied
+        second.entry)) }
 {
     match (first, second) {
         (None, None) => Ordering::Equal,

@@ -2,7 +2,8 @@
 ghost use Rattle.std.specs.Prelude.{◌≡◌};
 ghost use Rattle.bz_version.specs.Texts.{before, plus};
 ghost use Rattle.bz_version.specs.Grammar.{is_prerelease_byte, is_build_byte};
-ghost use Rattle.bz_version.specs.Scan.{next_place, release_mark, prerelease_mark, may_end, fault_from};
+ghost use Rattle.bz_version.specs.Scan.{next_place, release_mark, prerelease_mark, may_end};
+ghost use Rattle.bz_version.specs.Scan.{fault_from};
 ghost use Rattle.bz_version.specs.declared.scanner.Place.TheVariants.{Start};
 
 use crate::cuts::cut;

@@ -1,60 +1,86 @@
 -- The levels of a walk in order, and its first refusal.
-use Rattle.std.proofs.Common.{◌≡◌, ℕ, zero, suc, ◌+◌, ◌-◌, ◌≤◌, List, [], ◌∷◌, ◌++◌, length, drop, flat_map, Option, None, Some, Result, Ok, Err, Bool, true, false, if◌then◌else◌, refl, ap, sym, ◌∙◌, subst, arith, append_assoc, ◌⊎◌, inl, inr}
+use Rattle.std.proofs.Common.{◌≡◌, ℕ, zero, suc, ◌+◌, ◌-◌, ◌≤◌, List, [], ◌∷◌, ◌++◌, length, drop}
+use Rattle.std.proofs.Common.{flat_map, Option, None, Some, Result, Ok, Err, Bool, true, false}
+use Rattle.std.proofs.Common.{if◌then◌else◌, refl, ap, sym, ◌∙◌, subst, arith, append_assoc, ◌⊎◌}
+use Rattle.std.proofs.Common.{inl, inr}
 use Rattle.std.proofs.Math.Seq.{drop-append_seam}
 use Rattle.std.proofs.lemmas.Bool.{cond-false, cond-true}
 use Rattle.std.proofs.lemmas.Slice.Zip.{AllZip-long}
 use Rattle.bz_walks.proofs.WalkSteps.{levels-refused}
 use Rattle.std.proofs.lemmas.List.{append-nil, length-append, length-drop, take-append-drop}
 use Rattle.std.specs.List.{AllZip, list_any}
-use Rattle.bz_walks.specs.WalkOrders.{AreRead, FollowLevels, IsFirstBarred, IsFirstRefusal, IsLevelByLevel, IsRefusedAt, end, here, later, level, new_requests, next_of}
-use Rattle.bz_walks.specs.Walks.{Rules, Walk, Walked, levels, next_level, unless_barred, walked_with, with_ask, with_asks, with_level, with_node}
+use Rattle.bz_walks.specs.WalkOrders.{AreRead, FollowLevels, IsFirstBarred, IsFirstRefusal}
+use Rattle.bz_walks.specs.WalkOrders.{IsLevelByLevel, IsRefusedAt, end, here, later, level}
+use Rattle.bz_walks.specs.WalkOrders.{new_requests, next_of}
+use Rattle.bz_walks.specs.Walks.{Rules, Walk, Walked, levels, next_level, unless_barred}
+use Rattle.bz_walks.specs.Walks.{walked_with, with_ask, with_asks, with_level, with_node}
 
 -- ---- requests
 
 -- what is added is new
-added-new : {A E : Type 0} (rules : Rules A E) (asks known more : List A) → with_asks rules (Ok known) asks ≡ Ok more → more ≡ known ++ new_requests rules.same known asks
+added-new : {A E : Type 0} (rules : Rules A E) (asks known more : List A)
+    → with_asks rules (Ok known) asks ≡ Ok more
+    → more ≡ known ++ new_requests rules.same known asks
 added-new rules [] known more e = let same : known ≡ more = cc in sym same ∙ sym (append-nil known)
 added-new {A} {E} rules (ask ∷ asks) known more e =
-    by (list_any (rules.same ask) known) (rules.bar known ask) (added-new rules asks known more) (added-new rules asks (known ++ ask ∷ []) more) e
+    by (list_any (rules.same ask) known) (rules.bar known ask) (added-new rules asks known more)
+    (added-new rules asks (known ++ ask ∷ []) more) e
   where
     by : (there : Bool) (bar : Option E)
-      → (with_asks rules (Ok known) asks ≡ Ok more → more ≡ known ++ new_requests rules.same known asks)
-      → (with_asks rules (Ok (known ++ ask ∷ [])) asks ≡ Ok more → more ≡ (known ++ ask ∷ []) ++ new_requests rules.same (known ++ ask ∷ []) asks)
-      → with_asks rules (if there then Ok known else unless_barred known ask bar) asks ≡ Ok more
-      → more ≡ known ++ (if there then new_requests rules.same known asks else ask ∷ new_requests rules.same (known ++ ask ∷ []) asks)
+        → (with_asks rules (Ok known) asks ≡ Ok more
+        → more ≡ known ++ new_requests rules.same known asks)
+        → (with_asks rules (Ok (known ++ ask ∷ [])) asks ≡ Ok more
+        → more ≡ (known ++ ask ∷ []) ++ new_requests rules.same (known ++ ask ∷ []) asks)
+        → with_asks rules (if there then Ok known else unless_barred known ask bar) asks ≡ Ok more
+        → more ≡ known ++ (if there then new_requests rules.same known asks else ask ∷ new_requests
+        rules.same (known ++ ask ∷ []) asks)
     by true bar stays adds e = stays e
-    by false None stays adds e = adds e ∙ append_assoc known (ask ∷ []) (new_requests rules.same (known ++ ask ∷ []) asks)
+    by false None stays adds e = adds e
+        ∙ append_assoc known (ask ∷ []) (new_requests rules.same (known ++ ask ∷ []) asks)
     by false (Some refusal) stays adds e = absurd (cc)
 
-new-append : {A : Type 0} (same : A → A → Bool) (xs ys known : List A) → new_requests same known (xs ++ ys) ≡ new_requests same known xs ++ new_requests same (known ++ new_requests same known xs) ys
+new-append : {A : Type 0} (same : A → A → Bool) (xs ys known : List A)
+    → new_requests same known (xs ++ ys) ≡ new_requests same known xs
+    ++ new_requests same (known ++ new_requests same known xs) ys
 new-append same [] ys known = ap (λ all. new_requests same all ys) (sym (append-nil known))
-new-append {A} same (x ∷ xs) ys known = by (list_any (same x) known) (new-append same xs ys known) (new-append same xs ys (known ++ x ∷ []))
+new-append {A} same (x ∷ xs) ys known = by (list_any (same x) known) (new-append same xs ys known)
+    (new-append same xs ys (known ++ x ∷ []))
   where
     by : (there : Bool)
-      → new_requests same known (xs ++ ys) ≡ new_requests same known xs ++ new_requests same (known ++ new_requests same known xs) ys
-      → new_requests same (known ++ x ∷ []) (xs ++ ys) ≡ new_requests same (known ++ x ∷ []) xs ++ new_requests same ((known ++ x ∷ []) ++ new_requests same (known ++ x ∷ []) xs) ys
-      → (if there then new_requests same known (xs ++ ys) else x ∷ new_requests same (known ++ x ∷ []) (xs ++ ys))
+        → new_requests same known (xs ++ ys) ≡ new_requests same known xs
+        ++ new_requests same (known ++ new_requests same known xs) ys
+        → new_requests same (known ++ x ∷ []) (xs ++ ys) ≡ new_requests same (known ++ x ∷ []) xs
+        ++ new_requests same ((known ++ x ∷ []) ++ new_requests same (known ++ x ∷ []) xs) ys
+        → (if there then new_requests same known (xs ++ ys)
+        else x ∷ new_requests same (known ++ x ∷ []) (xs ++ ys))
         ≡ (if there then new_requests same known xs else x ∷ new_requests same (known ++ x ∷ []) xs)
-          ++ new_requests same (known ++ (if there then new_requests same known xs else x ∷ new_requests same (known ++ x ∷ []) xs)) ys
+        ++ new_requests same
+        (known ++ (if there then new_requests same known xs else x ∷ new_requests same (known
+        ++ x ∷ []) xs)) ys
     by true stays adds = stays
     by false stays adds =
         ap (λ rest. x ∷ rest) adds
-        ∙ ap (λ all. x ∷ (new_requests same (known ++ x ∷ []) xs ++ new_requests same all ys)) (append_assoc known (x ∷ []) (new_requests same (known ++ x ∷ []) xs))
+        ∙ ap (λ all. x ∷ (new_requests same (known ++ x ∷ []) xs ++ new_requests same all ys))
+        (append_assoc known (x ∷ []) (new_requests same (known ++ x ∷ []) xs))
 
 -- ---- one level
 
 -- what a level leaves: the nodes of its requests, and what they ask for
-record LevelRead {A N E : Type 0} (walk : Walk A N E) (walked : Walked A N) (asks : List A) (after : Walked A N) : Type 0 where
+record LevelRead {A N E : Type 0} (walk : Walk A N E) (walked : Walked A N) (asks : List A)
+    (after : Walked A N) : Type 0 where
   nodes : List N
   read : AreRead walk asks nodes
   nodes_are : after.nodes ≡ walked.nodes ++ nodes
   known_are : after.known ≡ walked.known ++ next_of walk walked.known nodes
 
-level-refused : {A N E : Type 0} (walk : Walk A N E) (refusal : E) (asks : List A) → with_level walk (Err refusal) asks ≡ Err refusal
+level-refused : {A N E : Type 0} (walk : Walk A N E) (refusal : E) (asks : List A)
+    → with_level walk (Err refusal) asks ≡ Err refusal
 level-refused walk refusal [] = refl
 level-refused walk refusal (ask ∷ asks) = refl
 
-level-read : {A N E : Type 0} (walk : Walk A N E) (asks : List A) (walked after : Walked A N) → with_level walk (Ok walked) asks ≡ Ok after → LevelRead walk walked asks after
+level-read : {A N E : Type 0} (walk : Walk A N E) (asks : List A) (walked after : Walked A N)
+    → with_level walk (Ok walked) asks ≡ Ok after
+    → LevelRead walk walked asks after
 level-read walk [] walked after e =
     let same : walked ≡ after = cc in
     record {
@@ -63,65 +89,136 @@ level-read walk [] walked after e =
       nodes_are = sym (ap (λ (w : Walked _ _). w.nodes) same) ∙ sym (append-nil walked.nodes);
       known_are = sym (ap (λ (w : Walked _ _). w.known) same) ∙ sym (append-nil walked.known);
     }
-level-read {A} {N} {E} walk (ask ∷ asks) walked after e = reading (walk.read ask) refl (λ middle. level-read walk asks middle after) e
+level-read {A} {N} {E} walk (ask ∷ asks) walked after e = reading (walk.read ask) refl
+    (λ middle. level-read walk asks middle after) e
   where
     Further : Type 0
-    Further = (middle : Walked A N) → with_level walk (Ok middle) asks ≡ Ok after → LevelRead walk middle asks after
+    Further = (middle : Walked A N)
+        → with_level walk (Ok middle) asks ≡ Ok after
+        → LevelRead walk middle asks after
 
-    adding : (node : N) → walk.read ask ≡ Ok node → (r : Result (List A) E) → with_asks walk.rules (Ok walked.known) (walk.asks node) ≡ r → Further → with_level walk (walked_with walked.nodes node r) asks ≡ Ok after → LevelRead walk walked (ask ∷ asks) after
-    adding node read (Err refusal) added further e = absurd (cc (sym (level-refused walk refusal asks) ∙ e))
+    adding : (node : N)
+        → walk.read ask ≡ Ok node
+        → (r : Result (List A) E)
+        → with_asks walk.rules (Ok walked.known) (walk.asks node) ≡ r
+        → Further
+        → with_level walk (walked_with walked.nodes node r) asks ≡ Ok after
+        → LevelRead walk walked (ask ∷ asks) after
+    adding node read (Err refusal) added further e = absurd
+        (cc (sym (level-refused walk refusal asks) ∙ e))
     adding node read (Ok known) added further e =
         let rest = further (record { known = known; nodes = walked.nodes ++ node ∷ [] }) e in
-        let first : known ≡ walked.known ++ new_requests walk.rules.same walked.known (walk.asks node) = added-new walk.rules (walk.asks node) walked.known known added in
+        let first : known ≡ walked.known
+        ++ new_requests walk.rules.same walked.known (walk.asks node) = added-new walk.rules
+        (walk.asks node) walked.known known added in
         record {
           nodes = node ∷ rest.nodes;
           read = (read, rest.read);
           nodes_are = rest.nodes_are ∙ append_assoc walked.nodes (node ∷ []) rest.nodes;
           known_are =
               rest.known_are
-              ∙ ap (λ all. all ++ new_requests walk.rules.same all (flat_map walk.asks rest.nodes)) first
-              ∙ append_assoc walked.known (new_requests walk.rules.same walked.known (walk.asks node)) _
-              ∙ ap (λ new. walked.known ++ new) (sym (new-append walk.rules.same (walk.asks node) (flat_map walk.asks rest.nodes) walked.known));
+              ∙ ap (λ all. all ++ new_requests walk.rules.same all (flat_map walk.asks rest.nodes))
+              first
+              ∙ append_assoc walked.known
+              (new_requests walk.rules.same walked.known (walk.asks node)) _
+              ∙ ap (λ new. walked.known ++ new)
+              (sym (new-append walk.rules.same (walk.asks node) (flat_map walk.asks rest.nodes)
+              walked.known));
         }
 
-    reading : (r : Result N E) → walk.read ask ≡ r → Further → with_level walk (with_node walk walked r) asks ≡ Ok after → LevelRead walk walked (ask ∷ asks) after
+    reading : (r : Result N E)
+        → walk.read ask ≡ r
+        → Further
+        → with_level walk (with_node walk walked r) asks ≡ Ok after
+        → LevelRead walk walked (ask ∷ asks) after
     reading (Err refusal) read further e = absurd (cc (sym (level-refused walk refusal asks) ∙ e))
-    reading (Ok node) read further e = adding node read (with_asks walk.rules (Ok walked.known) (walk.asks node)) refl further e
+    reading (Ok node) read further e = adding node read
+        (with_asks walk.rules (Ok walked.known) (walk.asks node)) refl further e
 
 -- ---- all levels
 
 -- what is left behind a level is what its nodes ask for
-left-behind : {A N E : Type 0} (walk : Walk A N E) (walked after : Walked A N) → length walked.nodes ≤ length walked.known → (read : LevelRead walk walked (next_level walked) after) → next_level after ≡ next_of walk walked.known read.nodes
+left-behind : {A N E : Type 0} (walk : Walk A N E) (walked after : Walked A N)
+    → length walked.nodes ≤ length walked.known
+    → (read : LevelRead walk walked (next_level walked) after)
+    → next_level after ≡ next_of walk walked.known read.nodes
 left-behind walk walked after within read =
-    let long : length read.nodes ≡ length (next_level walked) = AllZip-long (λ request node. walk.read request ≡ Ok node) (next_level walked) read.nodes read.read in
-    let left : length (next_level walked) ≡ length walked.known - length walked.nodes = length-drop (length walked.nodes) walked.known in
-    let all : length after.nodes ≡ length walked.known = omega (arith, ap length read.nodes_are ∙ length-append walked.nodes read.nodes, long, left, within) in
-    (λ i. drop (all i) (read.known_are i)) ∙ drop-append_seam walked.known (next_of walk walked.known read.nodes)
+    let long : length read.nodes
+    ≡ length (next_level walked) = AllZip-long (λ request node. walk.read request ≡ Ok node)
+    (next_level walked) read.nodes read.read in
+    let left : length (next_level walked)
+    ≡ length walked.known - length walked.nodes = length-drop
+    (length walked.nodes) walked.known in
+    let all : length after.nodes
+    ≡ length walked.known = omega (
+      arith,
+      ap length read.nodes_are
+          ∙ length-append walked.nodes read.nodes,
+      long,
+      left,
+      within,
+    ) in
+    (λ i. drop (all i) (read.known_are i))
+    ∙ drop-append_seam walked.known (next_of walk walked.known read.nodes)
 
-within-after : {A N E : Type 0} (walk : Walk A N E) (walked after : Walked A N) → length walked.nodes ≤ length walked.known → LevelRead walk walked (next_level walked) after → length after.nodes ≤ length after.known
+within-after : {A N E : Type 0} (walk : Walk A N E) (walked after : Walked A N)
+    → length walked.nodes ≤ length walked.known
+    → LevelRead walk walked (next_level walked) after
+    → length after.nodes ≤ length after.known
 within-after walk walked after within read =
-    let long : length read.nodes ≡ length (next_level walked) = AllZip-long (λ request node. walk.read request ≡ Ok node) (next_level walked) read.nodes read.read in
-    let left : length (next_level walked) ≡ length walked.known - length walked.nodes = length-drop (length walked.nodes) walked.known in
-    omega (arith, ap length read.nodes_are ∙ length-append walked.nodes read.nodes, ap length read.known_are ∙ length-append walked.known (next_of walk walked.known read.nodes), long, left, within)
+    let long : length read.nodes
+    ≡ length (next_level walked) = AllZip-long (λ request node. walk.read request ≡ Ok node)
+    (next_level walked) read.nodes read.read in
+    let left : length (next_level walked)
+    ≡ length walked.known - length walked.nodes = length-drop
+    (length walked.nodes) walked.known in
+    omega (
+      arith,
+      ap length read.nodes_are ∙ length-append walked.nodes read.nodes,
+      ap length
+          read.known_are ∙ length-append walked.known (next_of walk walked.known read.nodes),
+      long,
+      left,
+      within,
+    )
 
-pub levels-ordered : {A N E : Type 0} (walk : Walk A N E) (n : ℕ) (walked final : Walked A N) → length walked.nodes ≤ length walked.known → levels walk n (Ok walked) ≡ Ok final → next_level final ≡ []
-    → (behind : List A) × (further : List N) × FollowLevels walk walked.known (next_level walked) behind further
+pub levels-ordered : {A N E : Type 0} (walk : Walk A N E) (n : ℕ) (walked final : Walked A N)
+    → length walked.nodes ≤ length walked.known
+    → levels walk n (Ok walked) ≡ Ok final
+    → next_level final ≡ []
+    → (behind : List A) × (further : List N)
+    × FollowLevels walk walked.known (next_level walked) behind further
     × (final.known ≡ walked.known ++ behind) × (final.nodes ≡ walked.nodes ++ further)
 unfolding levels
 levels-ordered walk zero walked final within e ended =
     let same : walked ≡ final = cc in
-    let none : next_level walked ≡ [] = ap (λ (w : Walked _ _). next_level w) same ∙ ended in
-    ([], [], subst (λ left. FollowLevels walk walked.known left [] []) (sym none) (end walked.known), sym (ap (λ (w : Walked _ _). w.known) same) ∙ sym (append-nil walked.known), sym (ap (λ (w : Walked _ _). w.nodes) same) ∙ sym (append-nil walked.nodes))
+    let none : next_level walked ≡ [] = ap (λ (w : Walked _ _). next_level w) same ∙ ended in (
+      [],
+      [],
+      subst (λ left. FollowLevels walk walked.known left [] []) (sym none)
+          (end walked.known),
+      sym (ap (λ (w : Walked _ _). w.known) same)
+          ∙ sym (append-nil walked.known),
+      sym (ap (λ (w : Walked _ _). w.nodes) same)
+          ∙ sym (append-nil walked.nodes),
+    )
 levels-ordered {A} {N} {E} walk (suc n) walked final within e ended =
-    by (with_level walk (Ok walked) (next_level walked)) (λ after. level-read walk (next_level walked) walked after) (λ after now now_e. levels-ordered walk n after final now now_e ended) e
+    by (with_level walk (Ok walked) (next_level walked))
+    (λ after. level-read walk (next_level walked) walked after)
+    (λ after now now_e. levels-ordered walk n after final now now_e ended) e
   where
     Behind : Walked A N → Type 0
-    Behind after = (behind : List A) × (further : List N) × FollowLevels walk after.known (next_level after) behind further
-      × (final.known ≡ after.known ++ behind) × (final.nodes ≡ after.nodes ++ further)
+    Behind after = (behind : List A) × (further : List N)
+        × FollowLevels walk after.known (next_level after) behind further
+        × (final.known ≡ after.known ++ behind) × (final.nodes ≡ after.nodes ++ further)
 
-    by : (r : Result (Walked A N) E) → ((after : Walked A N) → r ≡ Ok after → LevelRead walk walked (next_level walked) after)
-      → ((after : Walked A N) → length after.nodes ≤ length after.known → levels walk n (Ok after) ≡ Ok final → Behind after)
-      → levels walk n r ≡ Ok final → Behind walked
+    by : (r : Result (Walked A N) E)
+        → ((after : Walked A N) → r ≡ Ok after → LevelRead walk walked (next_level walked) after)
+        → ((after : Walked A N)
+        → length after.nodes ≤ length after.known
+        → levels walk n (Ok after) ≡ Ok final
+        → Behind after)
+        → levels walk n r ≡ Ok final → Behind walked
     by (Err refusal) reads further e = absurd (cc (sym (levels-refused walk n refusal) ∙ e))
     by (Ok after) reads further e =
         let read = reads after refl in
@@ -129,55 +226,79 @@ levels-ordered {A} {N} {E} walk (suc n) walked final within e ended =
         let rest = further after (within-after walk walked after within read) e in
         let left : next_level after ≡ next = left-behind walk walked after within read in
         let follow : FollowLevels walk (walked.known ++ next) next rest.0 rest.1 =
-          subst (λ known. FollowLevels walk known next rest.0 rest.1) read.known_are (subst (λ l. FollowLevels walk after.known l rest.0 rest.1) left rest.2) in (
+        subst (λ known. FollowLevels walk known next rest.0 rest.1) read.known_are
+        (subst (λ l. FollowLevels walk after.known l rest.0 rest.1) left rest.2) in (
           next ++ rest.0,
           read.nodes ++ rest.1,
           level walked.known (next_level walked) read.nodes rest.0 rest.1 read.read follow,
-          rest.3 ∙ ap (λ known. known ++ rest.0) read.known_are ∙ append_assoc walked.known next rest.0,
-          rest.4 ∙ ap (λ nodes. nodes ++ rest.1) read.nodes_are ∙ append_assoc walked.nodes read.nodes rest.1,
+          rest.3 ∙ ap (λ known. known ++ rest.0) read.known_are
+              ∙ append_assoc walked.known next rest.0,
+          rest.4 ∙ ap (λ nodes. nodes ++ rest.1) read.nodes_are
+              ∙ append_assoc walked.nodes read.nodes rest.1,
         )
 
 -- ---- refusals
 
-with_asks-append : {A E : Type 0} (rules : Rules A E) (r : Result (List A) E) (xs ys : List A) → with_asks rules r (xs ++ ys) ≡ with_asks rules (with_asks rules r xs) ys
+with_asks-append : {A E : Type 0} (rules : Rules A E) (r : Result (List A) E) (xs ys : List A)
+    → with_asks rules r (xs ++ ys) ≡ with_asks rules (with_asks rules r xs) ys
 with_asks-append rules (Err refusal) xs [] = refl
 with_asks-append rules (Err refusal) xs (y ∷ ys) = refl
 with_asks-append rules (Ok known) [] ys = refl
-with_asks-append rules (Ok known) (x ∷ xs) ys = with_asks-append rules (with_ask rules known x) xs ys
+with_asks-append rules (Ok known) (x ∷ xs) ys = with_asks-append rules
+    (with_ask rules known x) xs ys
 
-barred-first : {A E : Type 0} (rules : Rules A E) (asks known : List A) (refusal : E) → with_asks rules (Ok known) asks ≡ Err refusal → IsFirstBarred rules known asks refusal
+barred-first : {A E : Type 0} (rules : Rules A E) (asks known : List A) (refusal : E)
+    → with_asks rules (Ok known) asks ≡ Err refusal
+    → IsFirstBarred rules known asks refusal
 barred-first rules [] known refusal e = absurd (cc)
 barred-first {A} {E} rules (ask ∷ asks) known refusal e =
-    by (list_any (rules.same ask) known) refl (rules.bar known ask) refl (barred-first rules asks known refusal) (barred-first rules asks (known ++ ask ∷ []) refusal) e
+    by (list_any (rules.same ask) known) refl (rules.bar known ask) refl
+    (barred-first rules asks known refusal)
+    (barred-first rules asks (known ++ ask ∷ []) refusal) e
   where
-    stands : list_any (rules.same ask) known ≡ true → IsFirstBarred rules known asks refusal → IsFirstBarred rules known (ask ∷ asks) refusal
+    stands : list_any (rules.same ask) known ≡ true
+        → IsFirstBarred rules known asks refusal
+        → IsFirstBarred rules known (ask ∷ asks) refusal
     stands there rest =
-        let same : new_requests rules.same known (ask ∷ rest.before) ≡ new_requests rules.same known rest.before = cond-true _ _ _ there in
+        let same : new_requests rules.same known (ask ∷ rest.before)
+        ≡ new_requests rules.same known rest.before = cond-true _ _ _ there in
         record {
           before = ask ∷ rest.before;
           request = rest.request;
           behind = rest.behind;
           are = ap (λ l. ask ∷ l) rest.are;
-          added = ap (λ r. with_asks rules r rest.before) (cond-true _ _ _ there) ∙ rest.added ∙ ap (λ new. Ok (known ++ new)) (sym same);
+          added = ap (λ r. with_asks rules r rest.before) (cond-true _ _ _ there) ∙ rest.added
+              ∙ ap (λ new. Ok (known ++ new)) (sym same);
           new = ap (λ new. list_any (rules.same rest.request) (known ++ new)) same ∙ rest.new;
           barred = ap (λ new. rules.bar (known ++ new) rest.request) same ∙ rest.barred;
         }
 
-    adds : list_any (rules.same ask) known ≡ false → rules.bar known ask ≡ None → IsFirstBarred rules (known ++ ask ∷ []) asks refusal → IsFirstBarred rules known (ask ∷ asks) refusal
+    adds : list_any (rules.same ask) known ≡ false
+        → rules.bar known ask ≡ None
+        → IsFirstBarred rules (known ++ ask ∷ []) asks refusal
+        → IsFirstBarred rules known (ask ∷ asks) refusal
     adds new none rest =
         let here_new = new_requests rules.same (known ++ ask ∷ []) rest.before in
-        let more : known ++ new_requests rules.same known (ask ∷ rest.before) ≡ (known ++ ask ∷ []) ++ here_new = ap (λ l. known ++ l) (cond-false _ _ _ new) ∙ sym (append_assoc known (ask ∷ []) here_new) in
+        let more : known ++ new_requests rules.same known (ask ∷ rest.before) ≡ (known ++ ask ∷ [])
+        ++ here_new = ap (λ l. known ++ l) (cond-false _ _ _ new)
+        ∙ sym (append_assoc known (ask ∷ []) here_new) in
         record {
           before = ask ∷ rest.before;
           request = rest.request;
           behind = rest.behind;
           are = ap (λ l. ask ∷ l) rest.are;
-          added = ap (λ r. with_asks rules r rest.before) (cond-false _ _ _ new ∙ ap (unless_barred known ask) none) ∙ rest.added ∙ ap Ok (sym more);
+          added = ap (λ r. with_asks rules r rest.before)
+              (cond-false _ _ _ new ∙ ap (unless_barred known ask) none) ∙ rest.added
+              ∙ ap Ok (sym more);
           new = ap (list_any (rules.same rest.request)) more ∙ rest.new;
           barred = ap (λ all. rules.bar all rest.request) more ∙ rest.barred;
         }
 
-    first : (refused : E) → list_any (rules.same ask) known ≡ false → rules.bar known ask ≡ Some refused → refused ≡ refusal → IsFirstBarred rules known (ask ∷ asks) refusal
+    first : (refused : E)
+        → list_any (rules.same ask) known ≡ false
+        → rules.bar known ask ≡ Some refused
+        → refused ≡ refusal
+        → IsFirstBarred rules known (ask ∷ asks) refusal
     first refused new bar is = record {
       before = [];
       request = ask;
@@ -188,34 +309,48 @@ barred-first {A} {E} rules (ask ∷ asks) known refusal e =
       barred = ap (λ all. rules.bar all ask) (append-nil known) ∙ bar ∙ ap Some is;
     }
 
-    by : (there : Bool) → list_any (rules.same ask) known ≡ there → (bar : Option E) → rules.bar known ask ≡ bar
-      → (with_asks rules (Ok known) asks ≡ Err refusal → IsFirstBarred rules known asks refusal)
-      → (with_asks rules (Ok (known ++ ask ∷ [])) asks ≡ Err refusal → IsFirstBarred rules (known ++ ask ∷ []) asks refusal)
-      → with_asks rules (if there then Ok known else unless_barred known ask bar) asks ≡ Err refusal → IsFirstBarred rules known (ask ∷ asks) refusal
+    by : (there : Bool)
+        → list_any (rules.same ask) known ≡ there
+        → (bar : Option E)
+        → rules.bar known ask ≡ bar
+        → (with_asks rules (Ok known) asks ≡ Err refusal → IsFirstBarred rules known asks refusal)
+        → (with_asks rules (Ok (known ++ ask ∷ [])) asks ≡ Err refusal
+        → IsFirstBarred rules (known ++ ask ∷ []) asks refusal)
+        → with_asks rules (if there then Ok known else unless_barred known ask bar) asks ≡ Err refusal
+        → IsFirstBarred rules known (ask ∷ asks) refusal
     by true there bar is stay add e = stands there (stay e)
     by false there None is stay add e = adds there is (add e)
     by false there (Some refused) is stay add e = first refused there is (refused-is asks refused e)
       where
-        refused-is : (l : List A) (one : E) → with_asks rules (Err one) l ≡ Err refusal → one ≡ refusal
+        refused-is : (l : List A) (one : E)
+            → with_asks rules (Err one) l ≡ Err refusal
+            → one ≡ refusal
         refused-is [] one e = cc
         refused-is (x ∷ l) one e = cc
 
 -- the first request of a level at which the walk is refused
-record LevelRefused {A N E : Type 0} (walk : Walk A N E) (known asks : List A) (refusal : E) : Type 0 where
+record LevelRefused {A N E : Type 0} (walk : Walk A N E) (known asks : List A)
+    (refusal : E) : Type 0 where
   front : List A
   request : A
   rest : List A
   nodes : List N
   are : asks ≡ front ++ request ∷ rest
   read : AreRead walk front nodes
-  added : with_asks walk.rules (Ok known) (flat_map walk.asks nodes) ≡ Ok (known ++ next_of walk known nodes)
+  added : with_asks walk.rules (Ok known) (flat_map walk.asks nodes)
+      ≡ Ok (known ++ next_of walk known nodes)
   refused : IsRefusedAt walk (known ++ next_of walk known nodes) request refusal
 
-level-first : {A N E : Type 0} (walk : Walk A N E) (asks : List A) (walked : Walked A N) (refusal : E) → with_level walk (Ok walked) asks ≡ Err refusal → LevelRefused walk walked.known asks refusal
+level-first : {A N E : Type 0} (walk : Walk A N E) (asks : List A) (walked : Walked A N)
+    (refusal : E)
+    → with_level walk (Ok walked) asks ≡ Err refusal
+    → LevelRefused walk walked.known asks refusal
 level-first walk [] walked refusal e = absurd (cc)
-level-first {A} {N} {E} walk (ask ∷ asks) walked refusal e = reading (walk.read ask) refl (λ middle. level-first walk asks middle refusal) e
+level-first {A} {N} {E} walk (ask ∷ asks) walked refusal e = reading (walk.read ask) refl
+    (λ middle. level-first walk asks middle refusal) e
   where
-    at_once : IsRefusedAt walk walked.known ask refusal → LevelRefused walk walked.known (ask ∷ asks) refusal
+    at_once : IsRefusedAt walk walked.known ask refusal
+        → LevelRefused walk walked.known (ask ∷ asks) refusal
     at_once refused = record {
       front = [];
       request = ask;
@@ -224,20 +359,33 @@ level-first {A} {N} {E} walk (ask ∷ asks) walked refusal e = reading (walk.rea
       are = refl;
       read = tt;
       added = ap Ok (sym (append-nil walked.known));
-      refused = subst (λ known. IsRefusedAt walk known ask refusal) (sym (append-nil walked.known)) refused;
+      refused = subst (λ known. IsRefusedAt walk known ask refusal)
+          (sym (append-nil walked.known)) refused;
     }
 
     Further : Type 0
-    Further = (middle : Walked A N) → with_level walk (Ok middle) asks ≡ Err refusal → LevelRefused walk middle.known asks refusal
+    Further = (middle : Walked A N)
+        → with_level walk (Ok middle) asks ≡ Err refusal
+        → LevelRefused walk middle.known asks refusal
 
-    behind : (node : N) → walk.read ask ≡ Ok node → (known : List A) → with_asks walk.rules (Ok walked.known) (walk.asks node) ≡ Ok known → LevelRefused walk known asks refusal → LevelRefused walk walked.known (ask ∷ asks) refusal
+    behind : (node : N)
+        → walk.read ask ≡ Ok node
+        → (known : List A)
+        → with_asks walk.rules (Ok walked.known) (walk.asks node) ≡ Ok known
+        → LevelRefused walk known asks refusal
+        → LevelRefused walk walked.known (ask ∷ asks) refusal
     behind node read known added rest =
-        let first : known ≡ walked.known ++ new_requests walk.rules.same walked.known (walk.asks node) = added-new walk.rules (walk.asks node) walked.known known added in
+        let first : known ≡ walked.known
+        ++ new_requests walk.rules.same walked.known (walk.asks node) = added-new walk.rules
+        (walk.asks node) walked.known known added in
         let new = new_requests walk.rules.same walked.known (walk.asks node) in
-        let all : known ++ next_of walk known rest.nodes ≡ walked.known ++ next_of walk walked.known (node ∷ rest.nodes) =
-          ap (λ k. k ++ new_requests walk.rules.same k (flat_map walk.asks rest.nodes)) first
-          ∙ append_assoc walked.known new _
-          ∙ ap (λ l. walked.known ++ l) (sym (new-append walk.rules.same (walk.asks node) (flat_map walk.asks rest.nodes) walked.known)) in
+        let all : known ++ next_of walk known rest.nodes ≡ walked.known
+        ++ next_of walk walked.known (node ∷ rest.nodes) =
+        ap (λ k. k ++ new_requests walk.rules.same k (flat_map walk.asks rest.nodes)) first
+        ∙ append_assoc walked.known new _
+        ∙ ap (λ l. walked.known ++ l)
+        (sym (new-append walk.rules.same (walk.asks node) (flat_map walk.asks rest.nodes)
+        walked.known)) in
         record {
           front = ask ∷ rest.front;
           request = rest.request;
@@ -246,35 +394,65 @@ level-first {A} {N} {E} walk (ask ∷ asks) walked refusal e = reading (walk.rea
           are = ap (λ l. ask ∷ l) rest.are;
           read = (read, rest.read);
           added =
-              with_asks-append walk.rules (Ok walked.known) (walk.asks node) (flat_map walk.asks rest.nodes)
-              ∙ ap (λ r. with_asks walk.rules r (flat_map walk.asks rest.nodes)) added ∙ rest.added ∙ ap Ok all;
+              with_asks-append walk.rules (Ok walked.known) (walk.asks node)
+              (flat_map walk.asks rest.nodes)
+              ∙ ap (λ r. with_asks walk.rules r (flat_map walk.asks rest.nodes)) added ∙ rest.added
+              ∙ ap Ok all;
           refused = subst (λ k. IsRefusedAt walk k rest.request refusal) all rest.refused;
         }
 
-    adding : (node : N) → walk.read ask ≡ Ok node → (r : Result (List A) E) → with_asks walk.rules (Ok walked.known) (walk.asks node) ≡ r → Further → with_level walk (walked_with walked.nodes node r) asks ≡ Err refusal → LevelRefused walk walked.known (ask ∷ asks) refusal
+    adding : (node : N)
+        → walk.read ask ≡ Ok node
+        → (r : Result (List A) E)
+        → with_asks walk.rules (Ok walked.known) (walk.asks node) ≡ r
+        → Further
+        → with_level walk (walked_with walked.nodes node r) asks ≡ Err refusal
+        → LevelRefused walk walked.known (ask ∷ asks) refusal
     adding node read (Err other) added further e =
         let is : other ≡ refusal = cc (sym (level-refused walk other asks) ∙ e) in
-        at_once (inr (node, read, barred-first walk.rules (walk.asks node) walked.known refusal (added ∙ ap Err is)))
-    adding node read (Ok known) added further e = behind node read known added (further (record { known = known; nodes = walked.nodes ++ node ∷ [] }) e)
+        at_once (inr (
+          node,
+          read,
+          barred-first walk.rules (walk.asks node) walked.known refusal
+              (added ∙ ap Err is),
+        ))
+    adding node read (Ok known) added further e = behind node read known added
+        (further (record { known = known; nodes = walked.nodes ++ node ∷ [] }) e)
 
-    reading : (r : Result N E) → walk.read ask ≡ r → Further → with_level walk (with_node walk walked r) asks ≡ Err refusal → LevelRefused walk walked.known (ask ∷ asks) refusal
+    reading : (r : Result N E)
+        → walk.read ask ≡ r
+        → Further
+        → with_level walk (with_node walk walked r) asks ≡ Err refusal
+        → LevelRefused walk walked.known (ask ∷ asks) refusal
     reading (Err other) read further e =
         let is : other ≡ refusal = cc (sym (level-refused walk other asks) ∙ e) in
         at_once (inl (read ∙ ap Err is))
-    reading (Ok node) read further e = adding node read (with_asks walk.rules (Ok walked.known) (walk.asks node)) refl further e
+    reading (Ok node) read further e = adding node read
+        (with_asks walk.rules (Ok walked.known) (walk.asks node)) refl further e
 
-pub levels-first_refusal : {A N E : Type 0} (walk : Walk A N E) (n : ℕ) (walked : Walked A N) (refusal : E) → length walked.nodes ≤ length walked.known → levels walk n (Ok walked) ≡ Err refusal → IsFirstRefusal walk walked.known (next_level walked) refusal
+pub levels-first_refusal : {A N E : Type 0} (walk : Walk A N E) (n : ℕ) (walked : Walked A N)
+    (refusal : E)
+    → length walked.nodes ≤ length walked.known
+    → levels walk n (Ok walked) ≡ Err refusal
+    → IsFirstRefusal walk walked.known (next_level walked) refusal
 unfolding levels
 levels-first_refusal walk zero walked refusal within e = absurd (cc)
 levels-first_refusal {A} {N} {E} walk (suc n) walked refusal within e =
-    by (with_level walk (Ok walked) (next_level walked)) refl (λ after now now_e. levels-first_refusal walk n after refusal now now_e) e
+    by (with_level walk (Ok walked) (next_level walked)) refl
+    (λ after now now_e. levels-first_refusal walk n after refusal now now_e) e
   where
-    at_level : LevelRefused walk walked.known (next_level walked) refusal → IsFirstRefusal walk walked.known (next_level walked) refusal
-    at_level first = subst (λ l. IsFirstRefusal walk walked.known l refusal) (sym first.are) (here walked.known first.front first.request first.rest first.nodes refusal first.read first.added first.refused)
+    at_level : LevelRefused walk walked.known (next_level walked) refusal
+        → IsFirstRefusal walk walked.known (next_level walked) refusal
+    at_level first = subst (λ l. IsFirstRefusal walk walked.known l refusal) (sym first.are)
+        (here walked.known first.front first.request first.rest first.nodes refusal first.read
+        first.added first.refused)
 
     by : (r : Result (Walked A N) E) → with_level walk (Ok walked) (next_level walked) ≡ r
-      → ((after : Walked A N) → length after.nodes ≤ length after.known → levels walk n (Ok after) ≡ Err refusal → IsFirstRefusal walk after.known (next_level after) refusal)
-      → levels walk n r ≡ Err refusal → IsFirstRefusal walk walked.known (next_level walked) refusal
+        → ((after : Walked A N)
+        → length after.nodes ≤ length after.known
+        → levels walk n (Ok after) ≡ Err refusal
+        → IsFirstRefusal walk after.known (next_level after) refusal)
+        → levels walk n r ≡ Err refusal → IsFirstRefusal walk walked.known (next_level walked) refusal
     by (Err other) is further e =
         let same : other ≡ refusal = cc (sym (levels-refused walk n other) ∙ e) in
         at_level (level-first walk (next_level walked) walked refusal (is ∙ ap Err same))
@@ -283,9 +461,15 @@ levels-first_refusal {A} {N} {E} walk (suc n) walked refusal within e =
         let rest = further after (within-after walk walked after within read) e in
         let next = next_of walk walked.known read.nodes in
         later walked.known (next_level walked) read.nodes refusal read.read
-        (subst (λ known. IsFirstRefusal walk known next refusal) read.known_are (subst (λ l. IsFirstRefusal walk after.known l refusal) (left-behind walk walked after within read) rest))
+        (subst (λ known. IsFirstRefusal walk known next refusal) read.known_are
+        (subst (λ l. IsFirstRefusal walk after.known l refusal)
+        (left-behind walk walked after within read) rest))
 
-pub levels-by_level : {A N E : Type 0} (walk : Walk A N E) (n : ℕ) (walked final : Walked A N) → length walked.nodes ≤ length walked.known → levels walk n (Ok walked) ≡ Ok final → next_level final ≡ [] → IsLevelByLevel walk walked final
+pub levels-by_level : {A N E : Type 0} (walk : Walk A N E) (n : ℕ) (walked final : Walked A N)
+    → length walked.nodes ≤ length walked.known
+    → levels walk n (Ok walked) ≡ Ok final
+    → next_level final ≡ []
+    → IsLevelByLevel walk walked final
 levels-by_level walk n walked final within e ended =
     let all = levels-ordered walk n walked final within e ended in
     record { behind = all.0; further = all.1; follow = all.2; known_are = all.3; nodes_are = all.4 }

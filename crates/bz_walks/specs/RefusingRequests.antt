@@ -1,4 +1,5 @@
--- Walks whose nodes have requests that may themselves be refused: each node in turn is read, then each of its requests in turn is refused or added.
+-- Walks whose nodes have requests that may themselves be refused: each node in turn is read, then
+-- each of its requests in turn is refused or added.
 use Rattle.std.specs.Prelude.{Bool, true, false, List, [], ◌∷◌, Option, Some, Result, Ok, Err}
 use Rattle.bz_walks.specs.Walks.{Rules, Walk}
 
@@ -16,7 +17,11 @@ same_made same (Err refusal) (Ok other) = false
 same_made same (Err refusal) (Err other) = true
 
 -- a refused request may not stand, for its own reason
-abbrev pub barred_or_refused : {A E : Type 0} → (List A → A → Option E) → List (Result A E) → Result A E → Option E
+abbrev pub barred_or_refused : {A E : Type 0}
+    → (List A → A → Option E)
+    → List (Result A E)
+    → Result A E
+    → Option E
 barred_or_refused bar known (Ok request) = bar (made known) request
 barred_or_refused bar known (Err refusal) = Some refusal
 
@@ -28,6 +33,10 @@ read_made read (Ok request) = read request
 read_made read (Err refusal) = Err refusal
 
 -- the walk over requests that may be refused
-abbrev pub refusing : {A N E : Type 0} → Rules A E → (A → Result N E) → (N → List (Result A E)) → Walk (Result A E) N E
+abbrev pub refusing : {A N E : Type 0}
+    → Rules A E
+    → (A → Result N E)
+    → (N → List (Result A E))
+    → Walk (Result A E) N E
 refusing rules read requests =
     record { rules = refusing_rules rules; read = read_made read; asks = requests }

@@ -1,5 +1,7 @@
--- In which order a walk meets requests and nodes, said of whole levels: nothing is read here one by one.
-use Rattle.std.specs.Prelude.{◌≡◌, Bool, false, if◌then◌else◌, List, [], ◌∷◌, ◌++◌, flat_map, Some, Ok, Err, ◌⊎◌}
+-- In which order a walk meets requests and nodes, said of whole levels: nothing is read here one by
+-- one.
+use Rattle.std.specs.Prelude.{◌≡◌, Bool, false, if◌then◌else◌, List, [], ◌∷◌, ◌++◌, flat_map, Some}
+use Rattle.std.specs.Prelude.{Ok, Err, ◌⊎◌}
 use Rattle.std.specs.List.{AllZip, list_any}
 use Rattle.bz_walks.specs.Walks.{Rules, Walk, Walked, next_level, with_asks}
 
@@ -18,44 +20,59 @@ next_of walk earlier nodes = new_requests walk.rules.same earlier (flat_map walk
 abbrev pub AreRead : {A N E : Type 0} → Walk A N E → List A → List N → Type 0
 AreRead walk level nodes = AllZip (λ request node. walk.read request ≡ Ok node) level nodes
 
--- the requests up to a level and the level itself, beside all that come behind it and the nodes from the level on: each level is what the nodes of the one before ask for, in order, without what stands earlier
-pub data FollowLevels {A N E : Type 0} (walk : Walk A N E) : List A → List A → List A → List N → Type 0 where
+-- the requests up to a level and the level itself, beside all that come behind it and the nodes
+-- from the level on: each level is what the nodes of the one before ask for, in order, without what
+-- stands earlier
+pub data FollowLevels {A N E : Type 0} (walk : Walk A N E) : List A
+    → List A
+    → List A
+    → List N
+    → Type 0 where
   end : (earlier : List A) → FollowLevels walk earlier [] [] []
   level : (earlier level : List A) (nodes : List N) (behind : List A) (further : List N)
-    → AreRead walk level nodes
-    → FollowLevels walk (earlier ++ next_of walk earlier nodes) (next_of walk earlier nodes) behind further
-    → FollowLevels walk earlier level (next_of walk earlier nodes ++ behind) (nodes ++ further)
+      → AreRead walk level nodes
+      → FollowLevels walk (earlier ++ next_of walk earlier nodes)
+      (next_of walk earlier nodes) behind further
+      → FollowLevels walk earlier level (next_of walk earlier nodes ++ behind) (nodes ++ further)
 
 -- of some requests the first that is new and may not stand is refused so
-pub record IsFirstBarred {A E : Type 0} (rules : Rules A E) (earlier requests : List A) (refusal : E) : Type 0 where
+pub record IsFirstBarred {A E : Type 0} (rules : Rules A E) (earlier requests : List A)
+    (refusal : E) : Type 0 where
   pub before : List A
   pub request : A
   pub behind : List A
   pub are : requests ≡ before ++ request ∷ behind
-  pub added : with_asks rules (Ok earlier) before ≡ Ok (earlier ++ new_requests rules.same earlier before)
-  pub new : list_any (rules.same request) (earlier ++ new_requests rules.same earlier before) ≡ false
+  pub added : with_asks rules (Ok earlier) before
+      ≡ Ok (earlier ++ new_requests rules.same earlier before)
+  pub new : list_any (rules.same request) (earlier ++ new_requests rules.same earlier before)
+      ≡ false
   pub barred : rules.bar (earlier ++ new_requests rules.same earlier before) request ≡ Some refusal
 
 -- a node's request can't be read, or one of the requests of the node is refused
 abbrev pub IsRefusedAt : {A N E : Type 0} → Walk A N E → List A → A → E → Type 0
 IsRefusedAt {A} {N} walk earlier request refusal =
     (walk.read request ≡ Err refusal)
-    ⊎ ((node : N) × (walk.read request ≡ Ok node) × IsFirstBarred walk.rules earlier (walk.asks node) refusal)
+    ⊎ ((node : N) × (walk.read request ≡ Ok node)
+    × IsFirstBarred walk.rules earlier (walk.asks node) refusal)
 
--- the first refusal, level by level: all requests before it in its level are read and what their nodes ask for is added
+-- the first refusal, level by level: all requests before it in its level are read and what their
+-- nodes ask for is added
 pub data IsFirstRefusal {A N E : Type 0} (walk : Walk A N E) : List A → List A → E → Type 0 where
   here : (earlier front : List A) (request : A) (rest : List A) (nodes : List N) (refusal : E)
-    → AreRead walk front nodes
-    → with_asks walk.rules (Ok earlier) (flat_map walk.asks nodes) ≡ Ok (earlier ++ next_of walk earlier nodes)
-    → IsRefusedAt walk (earlier ++ next_of walk earlier nodes) request refusal
-    → IsFirstRefusal walk earlier (front ++ request ∷ rest) refusal
+      → AreRead walk front nodes
+      → with_asks walk.rules (Ok earlier) (flat_map walk.asks nodes)
+      ≡ Ok (earlier ++ next_of walk earlier nodes)
+      → IsRefusedAt walk (earlier ++ next_of walk earlier nodes) request refusal
+      → IsFirstRefusal walk earlier (front ++ request ∷ rest) refusal
   later : (earlier level : List A) (nodes : List N) (refusal : E)
-    → AreRead walk level nodes
-    → IsFirstRefusal walk (earlier ++ next_of walk earlier nodes) (next_of walk earlier nodes) refusal
-    → IsFirstRefusal walk earlier level refusal
+      → AreRead walk level nodes
+      → IsFirstRefusal walk (earlier ++ next_of walk earlier nodes)
+      (next_of walk earlier nodes) refusal
+      → IsFirstRefusal walk earlier level refusal
 
 -- what comes behind a walk that is read so far, up to its end
-pub record IsLevelByLevel {A N E : Type 0} (walk : Walk A N E) (walked final : Walked A N) : Type 0 where
+pub record IsLevelByLevel {A N E : Type 0} (walk : Walk A N E)
+    (walked final : Walked A N) : Type 0 where
   pub behind : List A
   pub further : List N
   pub follow : FollowLevels walk walked.known (next_level walked) behind further

@@ -1,4 +1,5 @@
-//! Breadth-first walks over any requests and nodes: their definition, and laws of what they come to.
+//! Breadth-first walks over any requests and nodes: their definition, and laws of what they come
+//! to.
 #![tactic(auto)]
 
 pub mod laws;

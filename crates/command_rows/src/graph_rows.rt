@@ -1,4 +1,5 @@
-//! Small workspaces in memory beside what `graph` leaves of them: its number, and what stands on `out` and on `err`.
+//! Small workspaces in memory beside what `graph` leaves of them: its number, and what stands on
+//! `out` and on `err`.
 use bz_base::{EnvTable, Seq, TreePath, Txt};
 use bz_tree::{MemLock, MemSink, MemTree, NoGate};
 use mod_command::modtool;
@@ -19,7 +20,8 @@ fn put(alloc: Global, tree: &mut MemTree, path: &str, text: &str) -> Result<(), 
     Ok(())
 }
 
-/// A tree of module files, one a line: the key of a module, or `root`, and then the keys of its dependencies.
+/// A tree of module files, one a line: the key of a module, or `root`, and then the keys of its
+/// dependencies.
 fn laid<R: AllocGlobal>(rt: &R, lines: &str) -> Result<MemTree, Fail> {
     let alloc = rt.alloc();
     let mut tree = MemTree::new(alloc);

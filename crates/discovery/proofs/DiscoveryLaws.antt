@@ -1,5 +1,7 @@
--- Discovery gives a whole graph of what the root and the registry declare, and no more than is needed.
-use Rattle.std.proofs.Common.{◌≡◌, ◌≢◌, ℕ, ◌-◌, ◌≤◌, List, [], ◌∷◌, length, map, Result, Ok, Err, Bool, true, false, ◌&&◌, ◌||◌, refl, ap, sym, ◌∙◌, subst, arith}
+-- Discovery gives a whole graph of what the root and the registry declare, and no more than is
+-- needed.
+use Rattle.std.proofs.Common.{◌≡◌, ◌≢◌, ℕ, ◌-◌, ◌≤◌, List, [], ◌∷◌, length, map, Result, Ok, Err}
+use Rattle.std.proofs.Common.{Bool, true, false, ◌&&◌, ◌||◌, refl, ap, sym, ◌∙◌, subst, arith}
 use Rattle.std.proofs.lemmas.Bool.{and_parts}
 use Rattle.std.proofs.lemmas.Cmp.{nat_list_eq_equiv}
 use Rattle.std.proofs.lemmas.List.{length-map}
@@ -19,10 +21,16 @@ use Rattle.bz_base.specs.declared.module_key.Key.{Key}
 use Rattle.bz_base.specs.declared.refusals.Refusal.{Refusal}
 use Rattle.bz_tree.specs.declared.tree.Found.{Found}
 use Rattle.bz_tree.specs.declared.tree.Found.TheVariants.{Bytes, Large, Listing, Absent}
-use Rattle.discovery.proofs.Discoveries.{HasRoom, levels-nodes, walked_as, walked_with-barred, with_asks-longer, with_asks-room}
-use Rattle.bz_walks.proofs.EachItem.{AllByRecursion-both, AllByRecursion-right, AllByRecursion-weaker, AllZip-beside, AllZip-weaker}
-use Rattle.bz_walks.proofs.WalkLaws.{AllPassing, IsEnded, IsReadBy, IsWalked-first, IsWhole, PassesOn, Stands, walk_on-ends}
-use Rattle.discovery.specs.Discovery.{ask_of, asks_of, declared_as, discovered, discovery, discovery_rules, effective, file_text, found_for, graph_walked, most_keys, node_of, registry_node, root_ask, root_key, root_node}
+use Rattle.discovery.proofs.Discoveries.{HasRoom, levels-nodes, walked_as, walked_with-barred}
+use Rattle.discovery.proofs.Discoveries.{with_asks-longer, with_asks-room}
+use Rattle.bz_walks.proofs.EachItem.{AllByRecursion-both, AllByRecursion-right}
+use Rattle.bz_walks.proofs.EachItem.{AllByRecursion-weaker, AllZip-beside, AllZip-weaker}
+use Rattle.bz_walks.proofs.WalkLaws.{AllPassing, IsEnded, IsReadBy, IsWalked-first, IsWhole}
+use Rattle.bz_walks.proofs.WalkLaws.{PassesOn, Stands, walk_on-ends}
+use Rattle.discovery.specs.Discovery.{ask_of, asks_of, declared_as, discovered, discovery}
+use Rattle.discovery.specs.Discovery.{discovery_rules, effective, file_text, found_for}
+use Rattle.discovery.specs.Discovery.{graph_walked, most_keys, node_of, registry_node, root_ask}
+use Rattle.discovery.specs.Discovery.{root_key, root_node}
 use Rattle.discovery.specs.DiscoveryLaws.{HoldsOnNeeds, IsDiscovery, IsFromRegistry}
 use Rattle.bz_base.specs.Keys.{same_key}
 use Rattle.module_file.specs.ModuleFiles.{declared_in}
@@ -30,25 +38,34 @@ use Rattle.discovery.specs.Stopping.{Files}
 use Rattle.bz_walks.specs.Walks.{Walked, levels, walked_with, with_asks}
 use Rattle.discovery.specs.declared.asks.Ask.{Ask}
 
-same_key-congr : (one other third : Key) → same_key one other ≡ true → same_key one third ≡ same_key other third
+same_key-congr : (one other third : Key)
+    → same_key one other ≡ true
+    → same_key one third ≡ same_key other third
 same_key-congr one other third h =
-    let parts : (bytes_eq one.name other.name ≡ true) × (bytes_eq one.version other.version ≡ true) = and_parts (bytes_eq one.name other.name) (bytes_eq one.version other.version) h in
-    λ i. nat_list_eq_equiv.congr one.name other.name third.name parts.0 i && nat_list_eq_equiv.congr one.version other.version third.version parts.1 i
+    let parts : (bytes_eq one.name other.name ≡ true)
+    × (bytes_eq one.version other.version ≡ true) = and_parts (bytes_eq one.name other.name)
+    (bytes_eq one.version other.version) h in
+    λ i. nat_list_eq_equiv.congr one.name other.name third.name parts.0 i
+    && nat_list_eq_equiv.congr one.version other.version third.version parts.1 i
 
 same_key-itself : (key : Key) → same_key key key ≡ true
 same_key-itself key = λ i. nat_list_eq_equiv.refl key.name i && nat_list_eq_equiv.refl key.version i
 
 same_key-same : (one other : Key) → same_key one other ≡ true → one ≡ other
 same_key-same one other h =
-    let parts : (bytes_eq one.name other.name ≡ true) × (bytes_eq one.version other.version ≡ true) = and_parts (bytes_eq one.name other.name) (bytes_eq one.version other.version) h in
+    let parts : (bytes_eq one.name other.name ≡ true)
+    × (bytes_eq one.version other.version ≡ true) = and_parts (bytes_eq one.name other.name)
+    (bytes_eq one.version other.version) h in
     let names : one.name ≡ other.name = (bytes_eq-Decides one.name other.name).0 parts.0 in
-    let versions : one.version ≡ other.version = (bytes_eq-Decides one.version other.version).0 parts.1 in
+    let versions : one.version
+    ≡ other.version = (bytes_eq-Decides one.version other.version).0 parts.1 in
     λ i. record { name = names i; version = versions i }
 
 asks_alike : IsEquivalence discovery_rules.same
 asks_alike = record {
   refl = λ ask. same_key-itself ask.key;
-  symm = λ one other. λ i. nat_list_eq_equiv.symm one.key.name other.key.name i && nat_list_eq_equiv.symm one.key.version other.key.version i;
+  symm = λ one other. λ i. nat_list_eq_equiv.symm one.key.name other.key.name i
+      && nat_list_eq_equiv.symm one.key.version other.key.version i;
   congr = λ one other third. same_key-congr one.key other.key third.key;
 }
 
@@ -57,16 +74,38 @@ record IsReadFor (look : Files) (root : Key) (ask : Ask) (node : GraphNode) : Ty
   pub key_is : node.key ≡ ask.key
   pub from : IsFromRegistry look root node
 
-node_of-read : (look : Files) (root : Key) (ask : Ask) (node : GraphNode) → node_of root ask (found_for look ask.key) ≡ Ok node → IsReadFor look root ask node
+node_of-read : (look : Files) (root : Key) (ask : Ask) (node : GraphNode)
+    → node_of root ask (found_for look ask.key) ≡ Ok node
+    → IsReadFor look root ask node
 node_of-read look root ask node = by (found_for look ask.key) refl
   where
-    declared_by : (bytes : List ℕ) → found_for look ask.key ≡ Bytes bytes → (r : Result ModuleDecl Refusal) → declared_as ask.key (declared_in bytes) ≡ r → registry_node root ask r ≡ Ok node → IsReadFor look root ask node
+    declared_by : (bytes : List ℕ)
+        → found_for look ask.key ≡ Bytes bytes
+        → (r : Result ModuleDecl Refusal)
+        → declared_as ask.key (declared_in bytes) ≡ r
+        → registry_node root ask r ≡ Ok node
+        → IsReadFor look root ask node
     declared_by bytes found (Err refusal) declared e = absurd (cc e)
     declared_by bytes found (Ok declaration) declared e =
-        subst (IsReadFor look root ask) (cc e) (record { key_is = refl; from = record { bytes = bytes; declaration = declaration; found = found; declared = declared; made = refl } })
+        subst (IsReadFor look root ask) (cc e)
+        (record {
+          key_is = refl;
+          from = record {
+            bytes = bytes;
+            declaration = declaration;
+            found
+                = found;
+            declared = declared;
+            made = refl;
+          };
+        })
 
-    by : (found : Found) → found_for look ask.key ≡ found → node_of root ask found ≡ Ok node → IsReadFor look root ask node
-    by (Bytes bytes) found e = declared_by bytes found (declared_as ask.key (declared_in bytes)) refl e
+    by : (found : Found)
+        → found_for look ask.key ≡ found
+        → node_of root ask found ≡ Ok node
+        → IsReadFor look root ask node
+    by (Bytes bytes) found e = declared_by bytes found
+        (declared_as ask.key (declared_in bytes)) refl e
     by Large found e = absurd (cc e)
     by (Listing names) found e = absurd (cc e)
     by Absent found e = absurd (cc e)
@@ -78,54 +117,89 @@ KeyIs ask node = node.key ≡ ask.key
 abbrev HasMeantNeeds : Key → GraphNode → Type 0
 HasMeantNeeds root node = node.needs ≡ map (effective root) node.decl.deps
 
-HasMeantNeeds-read : (look : Files) (root : Key) (node : GraphNode) → IsFromRegistry look root node → HasMeantNeeds root node
+HasMeantNeeds-read : (look : Files) (root : Key) (node : GraphNode)
+    → IsFromRegistry look root node
+    → HasMeantNeeds root node
 HasMeantNeeds-read look root node from = subst (HasMeantNeeds root) (sym from.made) refl
 
 HasEachNeed-meant : (root : Key) (node : GraphNode) → HasMeantNeeds root node → HasEachNeed node
 HasEachNeed-meant root node meant = ap length meant ∙ length-map node.decl.deps (effective root)
 
 -- different asks lead to different keys
-differ_from : (ask : Ask) (node : GraphNode) → KeyIs ask node → (asks : List Ask) (nodes : List GraphNode) → AllZip KeyIs asks nodes → AllByRecursion (λ other. same_key ask.key other.key ≡ false) asks → AllByRecursion (λ other. node.key ≢ other.key) nodes
+differ_from : (ask : Ask) (node : GraphNode)
+    → KeyIs ask node
+    → (asks : List Ask) (nodes : List GraphNode)
+    → AllZip KeyIs asks nodes
+    → AllByRecursion (λ other. same_key ask.key other.key ≡ false) asks
+    → AllByRecursion (λ other. node.key ≢ other.key) nodes
 differ_from ask node key [] [] keys apart = tt
 differ_from ask node key [] (other ∷ nodes) keys apart = absurd keys
 differ_from ask node key (other ∷ asks) [] keys apart = absurd keys
-differ_from ask node key (other ∷ asks) (further ∷ nodes) keys apart =
-    (λ e. absurd (cc (sym (same_key-itself ask.key) ∙ ap (same_key ask.key) (sym key ∙ e ∙ keys.0) ∙ apart.0)), differ_from ask node key asks nodes keys.1 apart.1)
+differ_from ask node key (other ∷ asks) (further ∷ nodes) keys apart = (
+  λ e. absurd (cc (sym (same_key-itself ask.key) ∙ ap (same_key ask.key) (sym key ∙ e ∙ keys.0) ∙
+      apart.0)),
+  differ_from ask node key asks nodes keys.1 apart.1,
+)
 
-keys_differ : (asks : List Ask) (nodes : List GraphNode) → AllZip KeyIs asks nodes → IsDistinct discovery_rules.same asks → AllPairs (λ one other. one.key ≢ other.key) nodes
+keys_differ : (asks : List Ask) (nodes : List GraphNode)
+    → AllZip KeyIs asks nodes
+    → IsDistinct discovery_rules.same asks
+    → AllPairs (λ one other. one.key ≢ other.key) nodes
 unfolding IsDistinct
 keys_differ [] [] keys distinct = λ i j d before within. absurd (omega (arith, within))
 keys_differ [] (node ∷ nodes) keys distinct = absurd keys
 keys_differ (ask ∷ asks) [] keys distinct = absurd keys
 keys_differ (ask ∷ asks) (node ∷ nodes) keys distinct =
-    AllPairs-cons (λ one other. one.key ≢ other.key) node nodes (All-from_recursion (λ other. node.key ≢ other.key) nodes (differ_from ask node keys.0 asks nodes keys.1 distinct.0)) (keys_differ asks nodes keys.1 distinct.1)
+    AllPairs-cons (λ one other. one.key ≢ other.key) node nodes
+    (All-from_recursion (λ other. node.key ≢ other.key) nodes
+    (differ_from ask node keys.0 asks nodes keys.1 distinct.0))
+    (keys_differ asks nodes keys.1 distinct.1)
 
 -- a key for which an ask stands is that of a node
-keys_found : (key : Key) (asks : List Ask) (nodes : List GraphNode) → AllZip KeyIs asks nodes → list_any (λ other. same_key key other.key) asks ≡ list_any (λ node. same_key key node.key) nodes
+keys_found : (key : Key) (asks : List Ask) (nodes : List GraphNode)
+    → AllZip KeyIs asks nodes
+    → list_any (λ other. same_key key other.key) asks
+    ≡ list_any (λ node. same_key key node.key) nodes
 keys_found key [] [] keys = refl
 keys_found key [] (node ∷ nodes) keys = absurd keys
 keys_found key (ask ∷ asks) [] keys = absurd keys
-keys_found key (ask ∷ asks) (node ∷ nodes) keys = λ i. same_key key (sym keys.0 i) || keys_found key asks nodes keys.1 i
+keys_found key (ask ∷ asks) (node ∷ nodes) keys = λ i. same_key key (sym keys.0 i)
+    || keys_found key asks nodes keys.1 i
 
-needed_there : (key : Key) (asks : List Ask) (nodes : List GraphNode) → AllZip KeyIs asks nodes → list_any (λ other. same_key key other.key) asks ≡ true → Any (λ node. node.key ≡ key) nodes
+needed_there : (key : Key) (asks : List Ask) (nodes : List GraphNode)
+    → AllZip KeyIs asks nodes
+    → list_any (λ other. same_key key other.key) asks ≡ true
+    → Any (λ node. node.key ≡ key) nodes
 needed_there key asks nodes keys stands =
-    let found : Any (λ node. same_key key node.key ≡ true) nodes = Any-from_list_any (λ node. same_key key node.key) nodes (sym (keys_found key asks nodes keys) ∙ stands) in
+    let found : Any (λ node. same_key key node.key ≡ true) nodes = Any-from_list_any
+    (λ node. same_key key node.key) nodes (sym (keys_found key asks nodes keys) ∙ stands) in
     (found.0, found.1, found.2, found.3, sym (same_key-same key found.1.key found.4))
 
-module _ (root : Key) (asks : List Ask) (nodes : List GraphNode) (keys : AllZip KeyIs asks nodes) where
-  deps_there : (file : List ℕ) (deps : List Dep) → AllByRecursion (Stands discovery_rules asks) (map (ask_of root file) deps) → AllByRecursion (λ need. Any (λ node. node.key ≡ need) nodes) (map (effective root) deps)
+module _ (root : Key) (asks : List Ask) (nodes : List GraphNode)
+    (keys : AllZip KeyIs asks nodes) where
+  deps_there : (file : List ℕ) (deps : List Dep)
+      → AllByRecursion (Stands discovery_rules asks) (map (ask_of root file) deps)
+      → AllByRecursion (λ need. Any (λ node. node.key ≡ need) nodes) (map (effective root) deps)
   deps_there file [] stand = tt
-  deps_there file (dep ∷ deps) stand = (needed_there (effective root dep) asks nodes keys stand.0, deps_there file deps stand.1)
+  deps_there file (dep ∷ deps) stand =
+      (needed_there (effective root dep) asks nodes keys stand.0, deps_there file deps stand.1)
 
-  needs_there : (node : GraphNode) → AllByRecursion (Stands discovery_rules asks) (asks_of root node) → HasMeantNeeds root node → HasItsNeeds nodes node
+  needs_there : (node : GraphNode)
+      → AllByRecursion (Stands discovery_rules asks) (asks_of root node)
+      → HasMeantNeeds root node
+      → HasItsNeeds nodes node
   needs_there node stand meant =
-      All-from_recursion (λ need. Any (λ needed. needed.key ≡ need) nodes) node.needs (subst (AllByRecursion (λ need. Any (λ needed. needed.key ≡ need) nodes)) (sym meant) (deps_there (file_text node) node.decl.deps stand))
+      All-from_recursion (λ need. Any (λ needed. needed.key ≡ need) nodes) node.needs
+      (subst (AllByRecursion (λ need. Any (λ needed. needed.key ≡ need) nodes)) (sym meant)
+      (deps_there (file_text node) node.decl.deps stand))
 
 -- a test of keys as one of asks
 abbrev of_key : (Key → Bool) → Ask → Bool
 of_key holds ask = holds ask.key
 
-deps_pass : (holds : Key → Bool) (root : Key) (file : List ℕ) (deps : List Dep) → AllByRecursion (λ need. holds need ≡ true) (map (effective root) deps) → AllPassing (of_key holds) (map (ask_of root file) deps)
+deps_pass : (holds : Key → Bool) (root : Key) (file : List ℕ) (deps : List Dep)
+    → AllByRecursion (λ need. holds need ≡ true) (map (effective root) deps)
+    → AllPassing (of_key holds) (map (ask_of root file) deps)
 deps_pass holds root file [] all = tt
 deps_pass holds root file (dep ∷ deps) all = (all.0, deps_pass holds root file deps all.1)
 
@@ -133,11 +207,19 @@ deps_pass holds root file (dep ∷ deps) all = (all.0, deps_pass holds root file
 abbrev IsClosedAt : (Key → Bool) → GraphNode → Type 0
 IsClosedAt holds node = holds node.key ≡ true → All (λ need. holds need ≡ true) node.needs
 
-PassesOn-closed : (look : Files) (root : Key) (holds : Key → Bool) (ask : Ask) (node : GraphNode) → KeyIs ask node → HasMeantNeeds root node × IsClosedAt holds node → PassesOn (discovery look root) (of_key holds) ask node
+PassesOn-closed : (look : Files) (root : Key) (holds : Key → Bool) (ask : Ask) (node : GraphNode)
+    → KeyIs ask node
+    → HasMeantNeeds root node × IsClosedAt holds node
+    → PassesOn (discovery look root) (of_key holds) ask node
 PassesOn-closed look root holds ask node key closed holding =
-    deps_pass holds root (file_text node) node.decl.deps (subst (AllByRecursion (λ need. holds need ≡ true)) closed.0 (recursion_from_All (λ need. holds need ≡ true) node.needs (closed.1 (ap holds key ∙ holding))))
+    deps_pass holds root (file_text node) node.decl.deps
+    (subst (AllByRecursion (λ need. holds need ≡ true)) closed.0
+    (recursion_from_All (λ need. holds need ≡ true) node.needs
+    (closed.1 (ap holds key ∙ holding))))
 
-module _ (look : Files) (decl : ModuleDecl) (front : List Ask) (further : List GraphNode) (whole : IsWhole (discovery look (root_key decl)) HasRoom (root_ask (root_key decl)) (root_node decl) front further) where
+module _ (look : Files) (decl : ModuleDecl) (front : List Ask) (further : List GraphNode)
+    (whole : IsWhole (discovery look (root_key decl)) HasRoom (root_ask (root_key decl))
+    (root_node decl) front further) where
   abbrev root : Key
   root = root_key decl
 
@@ -148,46 +230,88 @@ module _ (look : Files) (decl : ModuleDecl) (front : List Ask) (further : List G
   nodes = root_node decl ∷ further
 
   reads : AllZip (IsReadFor look root) front further
-  reads = AllZip-weaker (IsReadBy (discovery look root)) (IsReadFor look root) (node_of-read look root) front further whole.read
+  reads = AllZip-weaker (IsReadBy (discovery look root)) (IsReadFor look root)
+      (node_of-read look root) front further whole.read
 
   keys : AllZip KeyIs asks nodes
-  keys = (refl, AllZip-weaker (IsReadFor look root) KeyIs (λ ask node read. read.key_is) front further reads)
+  keys = (
+    refl,
+    AllZip-weaker (IsReadFor look root) KeyIs (λ ask node read. read.key_is) front
+        further reads,
+  )
 
   from : AllByRecursion (IsFromRegistry look root) further
-  from = AllByRecursion-right (IsReadFor look root) (IsFromRegistry look root) (λ ask node read. read.from) front further reads
+  from = AllByRecursion-right (IsReadFor look root) (IsFromRegistry look root)
+      (λ ask node read. read.from) front further reads
 
   meant : AllByRecursion (HasMeantNeeds root) nodes
-  meant = (refl, AllByRecursion-weaker (IsFromRegistry look root) (HasMeantNeeds root) (HasMeantNeeds-read look root) further from)
+  meant = (
+    refl,
+    AllByRecursion-weaker (IsFromRegistry look root) (HasMeantNeeds root)
+        (HasMeantNeeds-read look root) further from,
+  )
 
-  least : (holds : Key → Bool) → holds root ≡ true → HoldsOnNeeds holds nodes → All (λ node. holds node.key ≡ true) nodes
+  least : (holds : Key → Bool)
+      → holds root ≡ true
+      → HoldsOnNeeds holds nodes
+      → All (λ node. holds node.key ≡ true) nodes
   least holds begins closed =
-      let closed_each : AllByRecursion (IsClosedAt holds) nodes = recursion_from_All (IsClosedAt holds) nodes closed in
-      let passes : AllZip (PassesOn (discovery look root) (of_key holds)) asks nodes = AllZip-beside KeyIs (λ node. HasMeantNeeds root node × IsClosedAt holds node) (PassesOn (discovery look root) (of_key holds)) (PassesOn-closed look root holds) asks nodes keys (AllByRecursion-both (HasMeantNeeds root) (IsClosedAt holds) (λ node. HasMeantNeeds root node × IsClosedAt holds node) (λ node m c. (m, c)) nodes meant closed_each) in
-      All-from_recursion (λ node. holds node.key ≡ true) nodes (held asks nodes keys (whole.least (of_key holds) begins passes))
+      let closed_each : AllByRecursion (IsClosedAt holds) nodes = recursion_from_All
+      (IsClosedAt holds) nodes closed in
+      let passes : AllZip (PassesOn (discovery look root) (of_key holds)) asks nodes = AllZip-beside
+      KeyIs (λ node. HasMeantNeeds root node × IsClosedAt holds node)
+      (PassesOn (discovery look root) (of_key holds))
+      (PassesOn-closed look root holds) asks nodes keys
+      (AllByRecursion-both (HasMeantNeeds root) (IsClosedAt holds)
+      (λ node. HasMeantNeeds root node × IsClosedAt holds node)
+      (λ node m c. (m, c)) nodes meant closed_each) in
+      All-from_recursion (λ node. holds node.key ≡ true) nodes
+      (held asks nodes keys (whole.least (of_key holds) begins passes))
     where
-      held : (some : List Ask) (those : List GraphNode) → AllZip KeyIs some those → AllPassing (of_key holds) some → AllByRecursion (λ node. holds node.key ≡ true) those
+      held : (some : List Ask) (those : List GraphNode)
+          → AllZip KeyIs some those
+          → AllPassing (of_key holds) some
+          → AllByRecursion (λ node. holds node.key ≡ true) those
       held [] [] same all = tt
       held [] (node ∷ those) same all = absurd same
       held (ask ∷ some) [] same all = absurd same
-      held (ask ∷ some) (node ∷ those) same all = (ap holds same.0 ∙ all.0, held some those same.1 all.1)
+      held (ask ∷ some) (node ∷ those) same all =
+          (ap holds same.0 ∙ all.0, held some those same.1 all.1)
 
   whole-discovery : IsDiscovery look decl (record { nodes = nodes })
   whole-discovery = record {
     graph_is = record {
-      root_first = (refl, All-from_recursion (λ other. other.root ≡ false) further (AllByRecursion-weaker (IsFromRegistry look root) (λ other. other.root ≡ false) (λ node read. ap (λ other. other.root) read.made) further from));
+      root_first = (
+        refl,
+        All-from_recursion (λ other. other.root ≡ false) further
+            (AllByRecursion-weaker (IsFromRegistry look root) (λ other. other.root ≡ false)
+            (λ node read. ap (λ other. other.root) read.made) further from),
+      );
       keys_differ = keys_differ asks nodes keys whole.distinct;
-      each_need = All-from_recursion HasEachNeed nodes (AllByRecursion-weaker (HasMeantNeeds root) HasEachNeed (HasEachNeed-meant root) nodes meant);
-      needs_there = All-from_recursion (HasItsNeeds nodes) nodes (AllByRecursion-both (λ node. AllByRecursion (Stands discovery_rules asks) (asks_of root node)) (HasMeantNeeds root) (HasItsNeeds nodes) (needs_there root asks nodes keys) nodes whole.stand meant);
+      each_need = All-from_recursion HasEachNeed nodes
+          (AllByRecursion-weaker (HasMeantNeeds root) HasEachNeed
+          (HasEachNeed-meant root) nodes meant);
+      needs_there = All-from_recursion (HasItsNeeds nodes) nodes
+          (AllByRecursion-both
+          (λ node. AllByRecursion (Stands discovery_rules asks) (asks_of root node))
+          (HasMeantNeeds root) (HasItsNeeds nodes)
+          (needs_there root asks nodes keys) nodes whole.stand meant);
     };
     declared = (refl, All-from_recursion (IsFromRegistry look root) further from);
     least = least;
   }
 
-ended-discovery : (look : Files) (decl : ModuleDecl) (final : Walked Ask GraphNode) → IsEnded (discovery look (root_key decl)) HasRoom (root_ask (root_key decl)) (root_node decl) final → IsDiscovery look decl (record { nodes = final.nodes })
+ended-discovery : (look : Files) (decl : ModuleDecl) (final : Walked Ask GraphNode)
+    → IsEnded (discovery look (root_key decl)) HasRoom (root_ask (root_key decl))
+    (root_node decl) final
+    → IsDiscovery look decl (record { nodes = final.nodes })
 ended-discovery look decl final ended =
-    subst (λ nodes. IsDiscovery look decl (record { nodes = nodes })) (sym ended.nodes_are) (whole-discovery look decl ended.front ended.further ended.whole)
+    subst (λ nodes. IsDiscovery look decl (record { nodes = nodes })) (sym ended.nodes_are)
+    (whole-discovery look decl ended.front ended.further ended.whole)
 
-pub discovered-least : (look : Files) (decl : ModuleDecl) (graph : Graph) → discovered look decl ≡ Ok graph → IsDiscovery look decl graph
+pub discovered-least : (look : Files) (decl : ModuleDecl) (graph : Graph)
+    → discovered look decl ≡ Ok graph
+    → IsDiscovery look decl graph
 unfolding discovered
 discovered-least look decl graph e =
     by (with_asks discovery_rules (Ok (root_ask root ∷ [])) (asks_of root (root_node decl))) refl e
@@ -195,17 +319,35 @@ discovered-least look decl graph e =
     root : Key
     root = root_key decl
 
-    ended : (known : List Ask) → with_asks discovery_rules (Ok (root_ask root ∷ [])) (asks_of root (root_node decl)) ≡ Ok known → (r : Result (Walked Ask GraphNode) Refusal) → levels (discovery look root) most_keys (Ok (walked_as known (root_node decl ∷ []))) ≡ r → graph_walked r ≡ Ok graph → IsDiscovery look decl graph
+    ended : (known : List Ask)
+        → with_asks discovery_rules (Ok (root_ask root ∷ [])) (asks_of root (root_node decl))
+        ≡ Ok known
+        → (r : Result (Walked Ask GraphNode) Refusal)
+        → levels (discovery look root) most_keys (Ok (walked_as known (root_node decl ∷ []))) ≡ r
+        → graph_walked r ≡ Ok graph
+        → IsDiscovery look decl graph
     ended known asked (Err refusal) reached e = absurd (cc e)
     ended known asked (Ok final) reached e =
-        let room : HasRoom known = with_asks-room (asks_of root (root_node decl)) (root_ask root ∷ []) known (omega arith) asked in
-        let some : 1 ≤ length known = with_asks-longer (asks_of root (root_node decl)) (root_ask root ∷ []) known asked in
+        let room : HasRoom known = with_asks-room (asks_of root (root_node decl))
+        (root_ask root ∷ []) known (omega arith) asked in
+        let some : 1 ≤ length known = with_asks-longer (asks_of root (root_node decl))
+        (root_ask root ∷ []) known asked in
         let first : IsEnded (discovery look root) HasRoom (root_ask root) (root_node decl) final =
-        walk_on-ends (discovery look root) asks_alike HasRoom most_keys (λ l now. now) (λ l more ask node now read added. with_asks-room (asks_of root node) l more now added) (root_ask root) (root_node decl) final
-        (most_keys - 1) known [] (omega arith) room (IsWalked-first (discovery look root) asks_alike (root_ask root) (root_node decl) known asked)
+        walk_on-ends (discovery look root) asks_alike HasRoom most_keys (λ l now. now)
+        (λ l more ask node now read added. with_asks-room (asks_of root node) l more now added)
+        (root_ask root) (root_node decl) final
+        (most_keys - 1) known [] (omega arith) room
+        (IsWalked-first (discovery look root) asks_alike (root_ask root)
+        (root_node decl) known asked)
         (levels-nodes look root known (root_node decl ∷ []) room some ∙ reached) in
         subst (IsDiscovery look decl) (cc e) (ended-discovery look decl final first)
 
-    by : (r : Result (List Ask) Refusal) → with_asks discovery_rules (Ok (root_ask root ∷ [])) (asks_of root (root_node decl)) ≡ r → graph_walked (levels (discovery look root) most_keys (walked_with [] (root_node decl) r)) ≡ Ok graph → IsDiscovery look decl graph
-    by (Err refusal) asked e = absurd (cc (sym (walked_with-barred look root (root_node decl) (Err refusal) refusal refl) ∙ e))
-    by (Ok known) asked e = ended known asked (levels (discovery look root) most_keys (Ok (walked_as known (root_node decl ∷ [])))) refl e
+    by : (r : Result (List Ask) Refusal)
+        → with_asks discovery_rules (Ok (root_ask root ∷ [])) (asks_of root (root_node decl)) ≡ r
+        → graph_walked (levels (discovery look root) most_keys (walked_with [] (root_node decl) r))
+        ≡ Ok graph
+        → IsDiscovery look decl graph
+    by (Err refusal) asked e = absurd
+        (cc (sym (walked_with-barred look root (root_node decl) (Err refusal) refusal refl) ∙ e))
+    by (Ok known) asked e = ended known asked
+        (levels (discovery look root) most_keys (Ok (walked_as known (root_node decl ∷ [])))) refl e

@@ -1,5 +1,8 @@
--- The discovered modules: Bazel, "Bazel modules", section "Version selection": every requirement of every version that is asked for counts.
-use Rattle.std.specs.Prelude.{ℕ, Bool, true, false, if◌then◌else◌, ◌&&◌, ◌==◌, not, nat_le, List, [], ◌∷◌, ◌++◌, length, map, Option, None, Some, Result, Ok, Err, codes, bytes_eq}
+-- The discovered modules: Bazel, "Bazel modules", section "Version selection": every requirement of
+-- every version that is asked for counts.
+use Rattle.std.specs.Prelude.{ℕ, Bool, true, false, if◌then◌else◌, ◌&&◌, ◌==◌, not, nat_le, List}
+use Rattle.std.specs.Prelude.{[], ◌∷◌, ◌++◌, length, map, Option, None, Some, Result, Ok, Err}
+use Rattle.std.specs.Prelude.{codes, bytes_eq}
 use Rattle.bz_base.specs.Refusals.{refusal_of}
 use Rattle.bz_base.specs.Paths.{joined}
 use Rattle.bz_base.specs.declared.declarations.Dep.{Dep}
@@ -28,7 +31,8 @@ too_many_refusal = refusal_of TooMany
 
 -- no file of the module that is asked for, at the line that asks
 abbrev pub no_module_refusal : Ask → Refusal
-no_module_refusal ask = record { code = NoModule; file = ask.file; line = ask.line; detail = key_text ask.key; hint = 0 }
+no_module_refusal ask = record
+    { code = NoModule; file = ask.file; line = ask.line; detail = key_text ask.key; hint = 0 }
 
 -- a dependency on the root's own name means the root, if it has one
 abbrev pub means_root : Key → Dep → Bool
@@ -36,7 +40,8 @@ means_root root dep = not (length root.name == 0) && bytes_eq dep.name root.name
 
 -- the key that a dependency means
 abbrev pub effective : Key → Dep → Key
-effective root dep = if means_root root dep then root else record { name = dep.name; version = dep.version }
+effective root dep = if means_root root dep then root
+    else record { name = dep.name; version = dep.version }
 
 -- the printed name of a node's module file
 abbrev pub file_text : GraphNode → List ℕ
@@ -58,7 +63,8 @@ discovery_rules = record { same = λ one other. same_key one.key other.key; bar 
 
 -- where the default registry has a module's file
 abbrev pub registry_text : Key → List ℕ
-registry_text key = codes "registry/modules/" ++ key.name ++ codes "/" ++ key.version ++ codes "/MODULE.bazel"
+registry_text key = codes "registry/modules/" ++ key.name ++ codes "/" ++ key.version
+    ++ codes "/MODULE.bazel"
 
 abbrev pub found_at : Files → Result (List ℕ) BadPath → Found
 found_at look (Ok path) = look path
@@ -89,10 +95,19 @@ registry_decl ask (Bytes bytes) = declared_as ask.key (declared_in bytes)
 
 abbrev pub node_with : Key → Key → Bool → List ℕ → ModuleDecl → GraphNode
 node_with root key is_root registry decl =
-    record { key = key; root = is_root; decl = decl; needs = map (effective root) decl.deps; nodeps = []; registry = registry }
+    record {
+      key = key;
+      root = is_root;
+      decl = decl;
+      needs = map
+          (effective root) decl.deps;
+      nodeps = [];
+      registry = registry;
+    }
 
 abbrev pub registry_node : Key → Ask → Result ModuleDecl Refusal → Result GraphNode Refusal
-registry_node root ask (Ok decl) = Ok (node_with root ask.key false (codes "file://%workspace%/registry") decl)
+registry_node root ask (Ok decl) = Ok
+    (node_with root ask.key false (codes "file://%workspace%/registry") decl)
 registry_node root ask (Err refusal) = Err refusal
 
 -- the module for which an ask asks
@@ -101,7 +116,12 @@ node_of root ask found = registry_node root ask (registry_decl ask found)
 
 abbrev pub discovery : Files → Key → Walk Ask GraphNode Refusal
 discovery look root =
-    record { rules = discovery_rules; read = λ ask. node_of root ask (found_for look ask.key); asks = asks_of root }
+    record {
+      rules = discovery_rules;
+      read = λ ask. node_of root ask
+          (found_for look ask.key);
+      asks = asks_of root;
+    }
 
 abbrev pub root_key : ModuleDecl → Key
 root_key decl = record { name = decl.name; version = decl.version }
@@ -120,7 +140,9 @@ abbrev pub graph_walked : Result (Walked Ask GraphNode) Refusal → Result Graph
 graph_walked (Ok walked) = Ok (record { nodes = walked.nodes })
 graph_walked (Err refusal) = Err refusal
 
--- the root and all further levels, or the first refusal; a level that isn't empty has a key, so that there are no more levels than keys
+-- the root and all further levels, or the first refusal; a level that isn't empty has a key, so
+-- that there are no more levels than keys
 unfoldable pub discovered : Files → ModuleDecl → Result Graph Refusal
 discovered look decl =
-    graph_walked (levels (discovery look (root_key decl)) most_keys (with_node (discovery look (root_key decl)) (root_alone (root_key decl)) (Ok (root_node decl))))
+    graph_walked (levels (discovery look (root_key decl)) most_keys (with_node (discovery look
+    (root_key decl)) (root_alone (root_key decl)) (Ok (root_node decl))))

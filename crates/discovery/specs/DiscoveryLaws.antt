@@ -21,14 +21,20 @@ pub record IsFromRegistry (look : Files) (root : Key) (node : GraphNode) : Type 
 -- the root, and then what the registry's files declare
 abbrev pub AreDeclared : Files → ModuleDecl → List GraphNode → Type 0
 AreDeclared look decl [] = ⊥
-AreDeclared look decl (node ∷ nodes) = (node ≡ root_node decl) × All (IsFromRegistry look (root_key decl)) nodes
+AreDeclared look decl (node ∷ nodes) = (node ≡ root_node decl)
+    × All (IsFromRegistry look (root_key decl)) nodes
 
 -- where the test holds of a node's key, it holds of each of its needs
 abbrev pub HoldsOnNeeds : (Key → Bool) → List GraphNode → Type 0
-HoldsOnNeeds holds nodes = All (λ node. IsTrue (holds node.key) → All (λ need. IsTrue (holds need)) node.needs) nodes
+HoldsOnNeeds holds nodes = All
+    (λ node. IsTrue (holds node.key) → All (λ need. IsTrue (holds need)) node.needs) nodes
 
--- a whole graph of what the root and the registry declare, and of nothing but what is needed: each set with the root's key and all needs of its members has the key of each node
+-- a whole graph of what the root and the registry declare, and of nothing but what is needed: each
+-- set with the root's key and all needs of its members has the key of each node
 pub record IsDiscovery (look : Files) (decl : ModuleDecl) (graph : Graph) : Type 0 where
   pub graph_is : IsGraph graph
   pub declared : AreDeclared look decl graph.nodes
-  pub least : (holds : Key → Bool) → IsTrue (holds (root_key decl)) → HoldsOnNeeds holds graph.nodes → All (λ node. IsTrue (holds node.key)) graph.nodes
+  pub least : (holds : Key → Bool)
+      → IsTrue (holds (root_key decl))
+      → HoldsOnNeeds holds graph.nodes
+      → All (λ node. IsTrue (holds node.key)) graph.nodes

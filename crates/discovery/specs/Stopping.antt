@@ -16,9 +16,18 @@ stop_of_miss (miss.Because refusal) = Refused refusal
 abbrev pub Files : Type 0
 Files = List ℕ → Found
 
--- the value or the refusal that the files give, where the tree tells them; or a read failed, at the path that the tree then has, and its count rose; or memory ran out
-abbrev pub GivesOver : {A : Type 0} → (Files → Result A Refusal) → Option Files → ℕ → ℕ → List ℕ → Result A Stop → Type 0
+-- the value or the refusal that the files give, where the tree tells them; or a read failed, at the
+-- path that the tree then has, and its count rose; or memory ran out
+abbrev pub GivesOver : {A : Type 0}
+    → (Files → Result A Refusal)
+    → Option Files
+    → ℕ
+    → ℕ
+    → List ℕ
+    → Result A Stop
+    → Type 0
 GivesOver wanted files before now failed (Ok value) = IfSome files (λ look. wanted look ≡ Ok value)
-GivesOver wanted files before now failed (Err (Refused refusal)) = IfSome files (λ look. wanted look ≡ Err refusal)
+GivesOver wanted files before now failed (Err (Refused refusal)) = IfSome files
+    (λ look. wanted look ≡ Err refusal)
 GivesOver wanted files before now failed (Err (ReadFault path)) = Rose before now × (path ≡ failed)
 GivesOver wanted files before now failed (Err OutOfMemory) = ⊤

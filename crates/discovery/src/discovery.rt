@@ -1,7 +1,15 @@
-//! Discovery: from the root on each module that is asked for is read, breadth first, and its dependencies ask for further ones. What comes in is the root's declaration and the tree; what goes out is the graph of all that is asked for. Kept are the asks that are known and the nodes to which the first of them led; the next ask is that behind the last node.
-ghost use Rattle.std.specs.Prelude.{◌≡◌, ◌≤◌, ◌<◌, ◌-◌, [], ◌∷◌, IfOk, Ok, false, true, length, map};
+//! Discovery: from the root on each module that is asked for is read, breadth first, and its
+//! dependencies ask for further ones. What comes in is the root's declaration and the tree; what
+//! goes out is the graph of all that is asked for. Kept are the asks that are known and the nodes
+//! to which the first of them led; the next ask is that behind the last node.
+ghost use Rattle.std.specs.Prelude.{◌≡◌, ◌≤◌, ◌<◌, ◌-◌, [], ◌∷◌, IfOk, Ok, false, true, length};
+ghost use Rattle.std.specs.Prelude.{map};
 ghost use Rattle.bz_text.specs.Answers.{Gives};
-ghost use Rattle.discovery.specs.Discovery.{ask_of, asks_of, declared_as, declares, discovered, discovery, discovery_rules, effective, file_text, found_for, graph_walked, means_root, most_keys, no_module_refusal, node_of, node_with, registry_decl, registry_text, root_alone, root_ask, root_key};
+ghost use Rattle.discovery.specs.Discovery.{ask_of, asks_of, declared_as, declares, discovered};
+ghost use Rattle.discovery.specs.Discovery.{discovery, discovery_rules, effective, file_text};
+ghost use Rattle.discovery.specs.Discovery.{found_for, graph_walked, means_root, most_keys};
+ghost use Rattle.discovery.specs.Discovery.{no_module_refusal, node_of, node_with, registry_decl};
+ghost use Rattle.discovery.specs.Discovery.{registry_text, root_alone, root_ask, root_key};
 ghost use Rattle.module_file.specs.ModuleFiles.{declared_in};
 ghost use Rattle.discovery.specs.Stopping.{GivesOver};
 ghost use Rattle.bz_walks.specs.Walks.{levels, with_asks, with_node};
@@ -15,10 +23,12 @@ use bz_tree::{Found, Tree};
 use module_file::declaring::{form, read_module};
 use std::alloc::Global;
 
-/// The module versions that the root needs, directly or through others, over the files of the default registry.
+/// The module versions that the root needs, directly or through others, over the files of the
+/// default registry.
 #[tactic(auto, unfolding(crate::specs::Discovery::discovered))]
 pub fn discover<T: Tree>(alloc: Global, root: ModuleDecl, tree: &mut T) -> Result<Graph, Stop>
-    ensures graph { GivesOver (λ look. discovered look root) (T.files tree.old) (T.faults tree.old) (T.faults tree.new) (T.failed tree.new) result }
+    ensures graph { GivesOver (λ look. discovered look root) (T.files tree.old) (T.faults tree.old)
+        (T.faults tree.new) (T.failed tree.new) result }
     ensures files_kept { T.files tree.new ≡ T.files tree.old }
     ensures count_never_falls { T.faults tree.old ≤ T.faults tree.new }
 {
@@ -51,7 +61,9 @@ fn walk_from<T: Tree>(
     root: &Key,
     node: GraphNode,
 ) -> Result<Graph, Stop>
-    ensures graph { GivesOver (λ look. graph_walked (levels (discovery look root.now) most_keys (with_node (discovery look root.now) (root_alone root.now) (Ok node)))) (T.files tree.old) (T.faults tree.old) (T.faults tree.new) (T.failed tree.new) result }
+    ensures graph { GivesOver (λ look. graph_walked (levels (discovery look root.now) most_keys (with_node
+        (discovery look root.now) (root_alone root.now) (Ok node)))) (T.files tree.old)
+        (T.faults tree.old) (T.faults tree.new) (T.failed tree.new) result }
     ensures files_kept { T.files tree.new ≡ T.files tree.old }
     ensures count_never_falls { T.faults tree.old ≤ T.faults tree.new }
 {
@@ -68,7 +80,8 @@ fn walk_from<T: Tree>(
 
 /// The root and what it asks for.
 fn first_asks(alloc: Global, root: &Key, node: &GraphNode) -> May<Known, Refusal>
-    ensures asks { Gives (with_asks discovery_rules (Ok (root_ask root.now ∷ [])) (asks_of root.now node.now)) result }
+    ensures asks { Gives (with_asks discovery_rules (Ok (root_ask root.now ∷ [])) (asks_of root.now node.now))
+        result }
     ensures root_known { IfOk result (λ known. 1 ≤ length known) }
     ensures room { IfOk result (λ known. length known ≤ most_keys) }
 {
@@ -87,7 +100,11 @@ fn walk<T: Tree>(
 ) -> Result<Graph, Stop>
     requires read { length nodes ≤ length known }
     requires room { length known ≤ most_keys }
-    ensures graph { GivesOver (λ look. graph_walked (levels (discovery look root.now) most_keys (Ok (record { known = known; nodes = nodes })))) (T.files tree.old) (T.faults tree.old) (T.faults tree.new) (T.failed tree.new) result }
+    ensures graph { GivesOver (λ look. graph_walked (levels (discovery look root.now) most_keys (Ok (record {
+      known = known;
+      nodes = nodes;
+    })))) (T.files tree.old) (T.faults tree.old)
+        (T.faults tree.new) (T.failed tree.new) result }
     ensures files_kept { T.files tree.new ≡ T.files tree.old }
     ensures count_never_falls { T.faults tree.old ≤ T.faults tree.new }
 {
@@ -112,7 +129,8 @@ fn walk<T: Tree>(
 
 /// The module for which an ask asks.
 fn visit<T: Tree>(alloc: Global, tree: &mut T, root: &Key, ask: &Ask) -> Result<GraphNode, Stop>
-    ensures node { GivesOver (λ look. node_of root.now ask.now (found_for look ask.now.key)) (T.files tree.old) (T.faults tree.old) (T.faults tree.new) (T.failed tree.new) result }
+    ensures node { GivesOver (λ look. node_of root.now ask.now (found_for look ask.now.key)) (T.files tree.old)
+        (T.faults tree.old) (T.faults tree.new) (T.failed tree.new) result }
     ensures files_kept { T.files tree.new ≡ T.files tree.old }
     ensures count_never_falls { T.faults tree.old ≤ T.faults tree.new }
 {
@@ -123,7 +141,8 @@ fn visit<T: Tree>(alloc: Global, tree: &mut T, root: &Key, ask: &Ask) -> Result<
 /// What stands where the default registry has a module's file.
 #[tactic(auto, unfolding(crate::specs::Discovery::found_for))]
 fn read_file<T: Tree>(alloc: Global, tree: &mut T, key: &Key) -> Result<Found, Stop>
-    ensures found { GivesOver (λ look. Ok (found_for look key.now)) (T.files tree.old) (T.faults tree.old) (T.faults tree.new) (T.failed tree.new) result }
+    ensures found { GivesOver (λ look. Ok (found_for look key.now)) (T.files tree.old) (T.faults tree.old)
+        (T.faults tree.new) (T.failed tree.new) result }
     ensures files_kept { T.files tree.new ≡ T.files tree.old }
     ensures count_never_falls { T.faults tree.old ≤ T.faults tree.new }
 {

@@ -1,4 +1,5 @@
-//! The asks that are known: a list in order, and a set of their keys by which a further ask is found among them at once.
+//! The asks that are known: a list in order, and a set of their keys by which a further ask is
+//! found among them at once.
 ghost use Rattle.std.specs.Prelude.{◌≡◌, ◌∷◌, ◌++◌, [], IfOk, map, slice_get, string_bytes};
 ghost use Rattle.std.specs.Option.{option_copied};
 ghost use Rattle.bz_text.specs.Answers.{Gives};

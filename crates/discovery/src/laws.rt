@@ -6,7 +6,10 @@ ghost use Rattle.discovery.specs.Discovery.{discovered};
 ghost use Rattle.discovery.specs.DiscoveryLaws.{IsDiscovery};
 ghost use Rattle.discovery.specs.Stopping.{Files};
 
-/// What is discovered is a whole graph of what the root and the registry declare, and its keys are the least set with the root and all needs of its members.
+/// What is discovered is a whole graph of what the root and the registry declare, and its keys are
+/// the least set with the root and all needs of its members.
 pub fn discovered_is_least()
-    ensures { (look : Files) (decl : ModuleDecl) (graph : Graph) → discovered look decl ≡ Ok graph → IsDiscovery look decl graph }
+    ensures { (look : Files) (decl : ModuleDecl) (graph : Graph)
+        → discovered look decl ≡ Ok graph
+        → IsDiscovery look decl graph }
 {}

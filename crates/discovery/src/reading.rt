@@ -10,7 +10,8 @@ use std::alloc::Global;
 
 /// What stands at a path. A read that fails gives the path back.
 pub fn read<T: Tree>(alloc: Global, tree: &mut T, path: TreePath) -> Result<Found, Stop>
-    ensures found { GivesOver (λ look. Ok (look path)) (T.files tree.old) (T.faults tree.old) (T.faults tree.new) (T.failed tree.new) result }
+    ensures found { GivesOver (λ look. Ok (look path)) (T.files tree.old) (T.faults tree.old)
+        (T.faults tree.new) (T.failed tree.new) result }
     ensures files_kept { T.files tree.new ≡ T.files tree.old }
     ensures count_never_falls { T.faults tree.old ≤ T.faults tree.new }
 {
@@ -23,7 +24,8 @@ pub fn read<T: Tree>(alloc: Global, tree: &mut T, path: TreePath) -> Result<Foun
 
 /// What stands where a text leads from the workspace; nothing where it leads nowhere.
 pub fn read_by<T: Tree>(alloc: Global, tree: &mut T, text: &str) -> Result<Found, Stop>
-    ensures found { GivesOver (λ look. Ok (found_by look text.now)) (T.files tree.old) (T.faults tree.old) (T.faults tree.new) (T.failed tree.new) result }
+    ensures found { GivesOver (λ look. Ok (found_by look text.now)) (T.files tree.old) (T.faults tree.old)
+        (T.faults tree.new) (T.failed tree.new) result }
     ensures files_kept { T.files tree.new ≡ T.files tree.old }
     ensures count_never_falls { T.faults tree.old ≤ T.faults tree.new }
 {

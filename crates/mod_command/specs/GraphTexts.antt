@@ -10,7 +10,8 @@ use Rattle.bz_base.specs.Keys.{node_text}
 
 -- the node of a selected module, by its place in module order
 abbrev pub node_at : List GraphNode → List Chosen → ℕ → Option GraphNode
-node_at nodes modules place = option_and_then (λ chosen. slice_get nodes chosen.node) (slice_get modules place)
+node_at nodes modules place = option_and_then (λ chosen. slice_get nodes chosen.node)
+    (slice_get modules place)
 
 -- `  APPARENT -> KEY`
 abbrev pub dep_line : List ℕ → GraphNode → List ℕ
@@ -18,15 +19,18 @@ dep_line apparent needed = codes "  " ++ apparent ++ codes " -> " ++ node_text n
 
 -- the line of a dependency that means the selected module of a place
 abbrev pub dep_line_of : List GraphNode → List Chosen → Dep × ℕ → List ℕ
-dep_line_of nodes modules pair = option_map_or (dep_line pair.0.apparent) (node_at nodes modules pair.1) []
+dep_line_of nodes modules pair = option_map_or (dep_line pair.0.apparent)
+    (node_at nodes modules pair.1) []
 
 abbrev pub module_lines_of : List GraphNode → List Chosen → Chosen → GraphNode → List ℕ
 module_lines_of nodes modules chosen node =
-    node_text node ++ codes "\n" ++ flat_map (dep_line_of nodes modules) (zip node.decl.deps chosen.deps)
+    node_text node ++ codes "\n"
+    ++ flat_map (dep_line_of nodes modules) (zip node.decl.deps chosen.deps)
 
 -- the key of a selected module, and its dependencies in order of declaration
 abbrev pub module_lines : List GraphNode → List Chosen → Chosen → List ℕ
-module_lines nodes modules chosen = option_map_or (module_lines_of nodes modules chosen) (slice_get nodes chosen.node) []
+module_lines nodes modules chosen = option_map_or (module_lines_of nodes modules chosen)
+    (slice_get nodes chosen.node) []
 
 -- the selected modules in module order
 abbrev pub graph_lines : Graph → Selected → List ℕ

@@ -8,7 +8,8 @@ use Rattle.bz_tree.specs.declared.tree.Found.TheVariants.{Bytes, Large, Listing,
 use Rattle.module_file.specs.ModuleFiles.{declared_in, form_refusal}
 
 abbrev pub no_root_refusal : Refusal
-no_root_refusal = record { code = NoRoot; file = codes "<root>/MODULE.bazel"; line = 0; detail = []; hint = 0 }
+no_root_refusal = record
+    { code = NoRoot; file = codes "<root>/MODULE.bazel"; line = 0; detail = []; hint = 0 }
 
 -- what the root file declares, of what stands at its path
 abbrev pub root_of : Found → Result ModuleDecl Refusal

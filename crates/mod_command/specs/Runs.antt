@@ -1,5 +1,6 @@
 -- What a call promises of the run that it ends.
-use Rattle.std.specs.Prelude.{◌≡◌, ◌⊎◌, ℕ, List, Option, None, IsSome, IfSome, MatchOption, Result, Ok, Err}
+use Rattle.std.specs.Prelude.{◌≡◌, ◌⊎◌, ℕ, List, Option, None, IsSome, IfSome, MatchOption, Result}
+use Rattle.std.specs.Prelude.{Ok, Err}
 use Rattle.bz_base.specs.Counts.{Rose}
 use Rattle.bz_base.specs.declared.refusals.Refusal.{Refusal}
 use Rattle.bz_tree.specs.Writes.{appended}
@@ -11,10 +12,13 @@ use Rattle.mod_command.specs.Written.{IsFrontWritten}
 use Rattle.mod_command.specs.declared.command.Command.{Command}
 use Rattle.mod_command.specs.declared.command.Command.TheVariants.{Graph}
 use Rattle.mod_command.specs.declared.status.Status.{Status}
-use Rattle.mod_command.specs.declared.status.Status.TheVariants.{Done, Refused, Usage, ReadFault, WriteFault, LockStale, OutOfMemory, LockFault}
+use Rattle.mod_command.specs.declared.status.Status.TheVariants.{Done, Refused, Usage, ReadFault}
+use Rattle.mod_command.specs.declared.status.Status.TheVariants.{WriteFault, LockStale, OutOfMemory}
+use Rattle.mod_command.specs.declared.status.Status.TheVariants.{LockFault}
 use Rattle.mod_command.specs.declared.status.WhichSink.TheVariants as which
 
--- a tree over a run: its files, where it tells them, its counts of failed reads, and the path of the last
+-- a tree over a run: its files, where it tells them, its counts of failed reads, and the path of
+-- the last
 pub record TreeRun : Type 0 where
   pub files : Option Files
   pub faults_before : ℕ
@@ -37,15 +41,31 @@ pub record SinkRun : Type 0 where
 
 abbrev pub tree_run : {T : Type 0} → (T → Option Files) → (T → ℕ) → (T → List ℕ) → T → T → TreeRun
 tree_run files faults failed before now =
-    record { files = files before; faults_before = faults before; faults_now = faults now; failed_now = failed now }
+    record {
+      files = files before;
+      faults_before = faults before;
+      faults_now = faults now;
+      failed_now = failed now;
+    }
 
 abbrev pub keeper_run : {K : Type 0} → (K → Option (Option (List ℕ))) → (K → ℕ) → K → K → KeeperRun
 keeper_run held faults before now =
-    record { held_before = held before; held_now = held now; faults_before = faults before; faults_now = faults now }
+    record {
+      held_before = held before;
+      held_now = held now;
+      faults_before = faults before;
+      faults_now = faults now;
+    }
 
 abbrev pub sink_run : {S : Type 0} → (S → Option (List ℕ)) → (S → ℕ) → S → S → SinkRun
 sink_run written faults before now =
-    record { written_before = written before; written_now = written now; faults_before = faults before; faults_now = faults now }
+    record {
+      written_before = written before;
+      written_now = written now;
+      faults_before = faults
+          before;
+      faults_now = faults now;
+    }
 
 -- all that a run sees and leaves
 pub record Run : Type 0 where
@@ -62,7 +82,8 @@ answer Graph look = graph_text_of look
 -- the words spell a command, of which this is the answer, where the tree tells its files
 abbrev pub IsAnswered : Run → Result (List ℕ) Refusal → Type 0
 IsAnswered run outcome =
-    MatchOption (command_of run.words) ⊥ (λ command. IfSome run.tree.files (λ look. answer command look ≡ outcome))
+    MatchOption (command_of run.words) ⊥
+    (λ command. IfSome run.tree.files (λ look. answer command look ≡ outcome))
 
 abbrev pub HasWhole : SinkRun → List ℕ → Type 0
 HasWhole sink bytes = sink.written_now ≡ appended sink.written_before bytes

@@ -3,7 +3,9 @@ use Rattle.std.specs.Prelude.{ℕ, ◌==◌, if◌then◌else◌, List, [], ◌+
 use Rattle.bz_base.specs.declared.refusals.Refusal.{Refusal}
 use Rattle.bz_base.specs.Refusals.{code_name}
 use Rattle.mod_command.specs.declared.status.Status.{Status}
-use Rattle.mod_command.specs.declared.status.Status.TheVariants.{Done, Refused, Usage, ReadFault, WriteFault, LockStale, OutOfMemory, LockFault}
+use Rattle.mod_command.specs.declared.status.Status.TheVariants.{Done, Refused, Usage, ReadFault}
+use Rattle.mod_command.specs.declared.status.Status.TheVariants.{WriteFault, LockStale, OutOfMemory}
+use Rattle.mod_command.specs.declared.status.Status.TheVariants.{LockFault}
 
 -- the exit status of the program
 abbrev pub number_of : Status → ℕ
@@ -24,7 +26,8 @@ line_part line = if line == 0 then [] else codes ":" ++ decimal line
 abbrev pub place_part : Refusal → List ℕ
 place_part refusal =
     if length refusal.file == 0 then []
-    else codes " at " ++ refusal.file ++ line_part (if refusal.line == 0 then refusal.hint else refusal.line)
+    else codes " at " ++ refusal.file
+    ++ line_part (if refusal.line == 0 then refusal.hint else refusal.line)
 
 -- `: DETAIL`, left out where there is none
 abbrev pub detail_part : List ℕ → List ℕ
@@ -32,11 +35,13 @@ detail_part detail = if length detail == 0 then [] else codes ": " ++ detail
 
 unfoldable pub refused_line : Refusal → List ℕ
 refused_line refusal =
-    codes "modtool: refused " ++ code_name refusal.code ++ place_part refusal ++ detail_part refusal.detail ++ codes "\n"
+    codes "modtool: refused " ++ code_name refusal.code ++ place_part refusal
+    ++ detail_part refusal.detail ++ codes "\n"
 
 unfoldable pub done_line : ℕ → ℕ → List ℕ
 done_line evaluated reused =
-    codes "modtool: ok, " ++ decimal evaluated ++ codes " evaluated, " ++ decimal reused ++ codes " reused\n"
+    codes "modtool: ok, " ++ decimal evaluated ++ codes " evaluated, " ++ decimal reused
+    ++ codes " reused\n"
 
 unfoldable pub read_fault_line : List ℕ → List ℕ
 read_fault_line path = codes "modtool: read fault: " ++ path ++ codes "\n"

@@ -1,4 +1,5 @@
-//! The text of `graph`: the root file is read, what it needs is discovered and selected, and the selected modules are written.
+//! The text of `graph`: the root file is read, what it needs is discovered and selected, and the
+//! selected modules are written.
 ghost use Rattle.std.specs.Prelude.{◌≡◌, ◌≤◌, codes};
 ghost use Rattle.mod_command.specs.RootFiles.{root_of};
 ghost use Rattle.mod_command.specs.Graphs.{graph_text_of, text_of_selected};
@@ -18,7 +19,8 @@ use std::alloc::Global;
 
 /// The text of `graph` over the tree's files.
 pub(crate) fn graph_text<T: Tree>(alloc: Global, tree: &mut T) -> Result<Txt, Stop>
-    ensures text { GivesOver graph_text_of (T.files tree.old) (T.faults tree.old) (T.faults tree.new) (T.failed tree.new) result }
+    ensures text { GivesOver graph_text_of (T.files tree.old) (T.faults tree.old) (T.faults tree.new)
+        (T.failed tree.new) result }
     ensures files_kept { T.files tree.new ≡ T.files tree.old }
     ensures count_never_falls { T.faults tree.old ≤ T.faults tree.new }
 {
@@ -29,7 +31,8 @@ pub(crate) fn graph_text<T: Tree>(alloc: Global, tree: &mut T) -> Result<Txt, St
 
 /// What the root file declares.
 fn declared_root<T: Tree>(alloc: Global, tree: &mut T) -> Result<ModuleDecl, Stop>
-    ensures root { GivesOver (λ look. root_of (look (codes "MODULE.bazel"))) (T.files tree.old) (T.faults tree.old)
+    ensures root { GivesOver (λ look. root_of (look (codes "MODULE.bazel"))) (T.files tree.old)
+        (T.faults tree.old)
         (T.faults tree.new) (T.failed tree.new) result }
     ensures files_kept { T.files tree.new ≡ T.files tree.old }
     ensures count_never_falls { T.faults tree.old ≤ T.faults tree.new }

@@ -1,7 +1,8 @@
 //! The text of a graph.
 ghost use Rattle.std.specs.Prelude.{◌≡◌, ◌++◌, flat_map, IfOk, OnOk, string_bytes, zip};
 ghost use Rattle.std.specs.Option.{option_copied};
-ghost use Rattle.mod_command.specs.GraphTexts.{dep_line, dep_line_of, graph_lines, module_lines, module_lines_of, node_at};
+ghost use Rattle.mod_command.specs.GraphTexts.{dep_line, dep_line_of, graph_lines, module_lines};
+ghost use Rattle.mod_command.specs.GraphTexts.{module_lines_of, node_at};
 
 use bz_base::{Chosen, Dep, Graph, GraphNode, Mem, Selected, Txt};
 use std::alloc::Global;
@@ -25,7 +26,8 @@ fn push_module(
     modules: &[Chosen],
     chosen: &Chosen,
 ) -> Mem<()>
-    ensures { OnOk result (string_bytes text.new ≡ string_bytes text.old ++ module_lines nodes.now modules.now chosen.now) }
+    ensures { OnOk result (string_bytes text.new ≡ string_bytes text.old ++ module_lines nodes.now
+        modules.now chosen.now) }
 {
     match nodes.get(chosen.node as usize) {
         Some(node) => push_node_lines(text, nodes, modules, chosen, node),
@@ -40,7 +42,8 @@ fn push_node_lines(
     chosen: &Chosen,
     node: &GraphNode,
 ) -> Mem<()>
-    ensures { OnOk result (string_bytes text.new ≡ string_bytes text.old ++ module_lines_of nodes.now modules.now chosen.now node.now) }
+    ensures { OnOk result (string_bytes text.new ≡ string_bytes text.old ++ module_lines_of nodes.now
+        modules.now chosen.now node.now) }
 {
     node.push_text(text)?;
     text.push_str("\n")?;
@@ -60,7 +63,8 @@ fn push_deps(
     deps: &[Dep],
     places: &[u64],
 ) -> Mem<()>
-    ensures { OnOk result (string_bytes text.new ≡ string_bytes text.old ++ flat_map (dep_line_of nodes.now modules.now) (zip deps.now places.now)) }
+    ensures { OnOk result (string_bytes text.new ≡ string_bytes text.old ++ flat_map (dep_line_of
+        nodes.now modules.now) (zip deps.now places.now)) }
 {
     for (dep, place) in deps.iter().zip(places) {
         push_dep(text, nodes, modules, dep, *place)?;
@@ -75,7 +79,8 @@ fn push_dep(
     dep: &Dep,
     place: u64,
 ) -> Mem<()>
-    ensures { OnOk result (string_bytes text.new ≡ string_bytes text.old ++ dep_line_of nodes.now modules.now (dep.now, place)) }
+    ensures { OnOk result (string_bytes text.new ≡ string_bytes text.old ++ dep_line_of nodes.now
+        modules.now (dep.now, place)) }
 {
     match node_at(nodes, modules, place) {
         Some(needed) => push_dep_line(text, dep.apparent.as_str(), needed),
@@ -84,7 +89,8 @@ fn push_dep(
 }
 
 fn push_dep_line(text: &mut String, apparent: &str, needed: &GraphNode) -> Mem<()>
-    ensures { OnOk result (string_bytes text.new ≡ string_bytes text.old ++ dep_line apparent.now needed.now) }
+    ensures { OnOk result (string_bytes text.new ≡ string_bytes text.old ++ dep_line apparent.now
+        needed.now) }
 {
     text.push_str("  ")?;
     text.push_str(apparent)?;

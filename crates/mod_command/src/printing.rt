@@ -1,9 +1,11 @@
-//! What a run prints: its text and then its line, or the line of the status that comes in place of both.
+//! What a run prints: its text and then its line, or the line of the status that comes in place of
+//! both.
 ghost use Rattle.std.specs.Prelude.{◌≡◌, ◌⊎◌};
 ghost use Rattle.mod_command.specs.Printing.{IsPrinted, IsPrintedOrLacksMemory, status_of_stop};
 ghost use Rattle.mod_command.specs.Runs.{IsTold, sink_run};
 ghost use Rattle.mod_command.specs.Statuses.{line_of};
-ghost use Rattle.mod_command.specs.declared.status.Status.TheVariants.{OutOfMemory, ReadFault, Refused};
+ghost use Rattle.mod_command.specs.declared.status.Status.TheVariants.{OutOfMemory, ReadFault};
+ghost use Rattle.mod_command.specs.declared.status.Status.TheVariants.{Refused};
 
 use crate::report::{done_text, read_fault_text, refused_text};
 use crate::status::{Status, WhichSink};
@@ -20,7 +22,8 @@ pub(crate) fn tell<E: Sink>(err: &mut E, line: &str)
     let _ = write_all(err, line.as_bytes());
 }
 
-/// Writes the line of what came in place of a text, or that memory ran out where there is none for that line.
+/// Writes the line of what came in place of a text, or that memory ran out where there is none for
+/// that line.
 pub(crate) fn tell_stop<E: Sink>(alloc: Global, err: &mut E, stop: Stop) -> Status
     ensures status { (result ≡ status_of_stop stop) ⊎ (result ≡ OutOfMemory) }
     ensures told { IsTold (sink_run E.written E.faults err.old err.new) (line_of result) }
@@ -66,14 +69,16 @@ fn tell_read_fault<E: Sink>(alloc: Global, err: &mut E, path: TreePath) -> Statu
     }
 }
 
-/// Writes the text on `out` and then the line of a run that is done on `err`. Both are whole in memory before the first byte is written.
+/// Writes the text on `out` and then the line of a run that is done on `err`. Both are whole in
+/// memory before the first byte is written.
 pub(crate) fn print_done<S: Sink, E: Sink>(
     alloc: Global,
     out: &mut S,
     err: &mut E,
     text: &Txt,
 ) -> Status
-    ensures { IsPrintedOrLacksMemory (sink_run S.written S.faults out.old out.new) (sink_run E.written E.faults err.old err.new) text.now result }
+    ensures { IsPrintedOrLacksMemory (sink_run S.written S.faults out.old out.new)
+        (sink_run E.written E.faults err.old err.new) text.now result }
 {
     match done_text(alloc, 0, 0) {
         Err(_) => tell_out_of_memory(err),
@@ -82,7 +87,8 @@ pub(crate) fn print_done<S: Sink, E: Sink>(
 }
 
 fn print<S: Sink, E: Sink>(out: &mut S, err: &mut E, text: &str, line: &str) -> Status
-    ensures { IsPrinted (sink_run S.written S.faults out.old out.new) (sink_run E.written E.faults err.old err.new) text.now line.now result }
+    ensures { IsPrinted (sink_run S.written S.faults out.old out.new)
+        (sink_run E.written E.faults err.old err.new) text.now line.now result }
 {
     match write_all(out, text.as_bytes()) {
         Err(_) => {

@@ -1,6 +1,8 @@
-//! What a run leaves: its status, its text and its line, made whole in memory before a byte is written.
+//! What a run leaves: its status, its text and its line, made whole in memory before a byte is
+//! written.
 ghost use Rattle.std.specs.Prelude.{◌≡◌, ◌++◌, OnOk, IfOk, string_bytes, decimal};
-ghost use Rattle.mod_command.specs.Statuses.{detail_part, done_line, line_part, place_part, read_fault_line, refused_line};
+ghost use Rattle.mod_command.specs.Statuses.{detail_part, done_line, line_part, place_part};
+ghost use Rattle.mod_command.specs.Statuses.{read_fault_line, refused_line};
 
 use bz_base::{Mem, Refusal, Txt};
 use std::alloc::Global;

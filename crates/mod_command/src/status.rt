@@ -11,7 +11,8 @@ pub enum WhichSink {
     Err,
 }
 
-/// How a call ends. `evaluated` and `reused` count extensions, `steps` the steps of their evaluation.
+/// How a call ends. `evaluated` and `reused` count extensions, `steps` the steps of their
+/// evaluation.
 #[derive(Debug, Drop)]
 pub enum Status {
     Done {

@@ -12,7 +12,8 @@ use std::alloc::Global;
 
 /// The command's text over the tree's files.
 pub(crate) fn text<T: Tree>(alloc: Global, command: Command, tree: &mut T) -> Result<Txt, Stop>
-    ensures text { GivesOver (answer command) (T.files tree.old) (T.faults tree.old) (T.faults tree.new) (T.failed tree.new) result }
+    ensures text { GivesOver (answer command) (T.files tree.old) (T.faults tree.old) (T.faults tree.new)
+        (T.failed tree.new) result }
     ensures files_kept { T.files tree.new ≡ T.files tree.old }
     ensures count_never_falls { T.faults tree.old ≤ T.faults tree.new }
 {

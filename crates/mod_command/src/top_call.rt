@@ -25,7 +25,16 @@ pub fn evaluate_one<T: Tree, K: LockKeeper, S: Sink, E: Sink, L: Ledger>(
     err: &mut E,
     steps: &mut Steps<L>,
 ) -> Status
-    ensures promised { Promised (record { words = map string_bytes words.now; tree = tree_run T.files T.faults T.failed tree.old tree.new; lock = keeper_run K.held K.faults lock.old lock.new; out = sink_run S.written S.faults out.old out.new; err = sink_run E.written E.faults err.old err.new }) result }
+    ensures promised { Promised (record {
+      words = map string_bytes words.now;
+      tree = tree_run T.files T.faults
+          T.failed tree.old tree.new;
+      lock = keeper_run K.held K.faults lock.old lock.new;
+      out =
+          sink_run S.written S.faults out.old out.new;
+      err = sink_run E.written E.faults err.old
+          err.new;
+    }) result }
     ensures files_kept { T.files tree.new ≡ T.files tree.old }
     ensures no_steps { steps.new ≡ steps.old }
 {
@@ -51,7 +60,16 @@ pub fn modtool<R: Threads + Wait + Sync, T: Tree, K: LockKeeper, S: Sink, E: Sin
     err: &mut E,
     gate: &G,
 ) -> Status
-    ensures promised { Promised (record { words = map string_bytes words.now; tree = tree_run T.files T.faults T.failed tree.old tree.new; lock = keeper_run K.held K.faults lock.old lock.new; out = sink_run S.written S.faults out.old out.new; err = sink_run E.written E.faults err.old err.new }) result }
+    ensures promised { Promised (record {
+      words = map string_bytes words.now;
+      tree = tree_run T.files T.faults
+          T.failed tree.old tree.new;
+      lock = keeper_run K.held K.faults lock.old lock.new;
+      out =
+          sink_run S.written S.faults out.old out.new;
+      err = sink_run E.written E.faults err.old
+          err.new;
+    }) result }
     ensures files_kept { T.files tree.new ≡ T.files tree.old }
 {
     count_and_run::<T, K, S, E, Brand>(alloc, Blank::new(1), words, env, tree, lock, out, err)
@@ -69,7 +87,16 @@ fn count_and_run<T: Tree, K: LockKeeper, S: Sink, E: Sink, L: Ledger>(
 ) -> Status
     requires name { ledger.name ≡ L.name }
     requires parts { ledger.parts ≡ L.parts }
-    ensures promised { Promised (record { words = map string_bytes words.now; tree = tree_run T.files T.faults T.failed tree.old tree.new; lock = keeper_run K.held K.faults lock.old lock.new; out = sink_run S.written S.faults out.old out.new; err = sink_run E.written E.faults err.old err.new }) result }
+    ensures promised { Promised (record {
+      words = map string_bytes words.now;
+      tree = tree_run T.files T.faults
+          T.failed tree.old tree.new;
+      lock = keeper_run K.held K.faults lock.old lock.new;
+      out =
+          sink_run S.written S.faults out.old out.new;
+      err = sink_run E.written E.faults err.old
+          err.new;
+    }) result }
     ensures files_kept { T.files tree.new ≡ T.files tree.old }
 {
     let mut steps: Steps<L> = Steps::of(ledger);

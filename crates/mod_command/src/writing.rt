@@ -6,7 +6,8 @@ ghost use Rattle.mod_command.specs.Written.{IsFrontWritten};
 
 use bz_tree::{Failed, Sink};
 
-/// Writes all of the bytes, piece by piece. Where a piece fails, or nothing of it is taken, a front of them is written.
+/// Writes all of the bytes, piece by piece. Where a piece fails, or nothing of it is taken, a front
+/// of them is written.
 pub(crate) fn write_all<S: Sink>(sink: &mut S, bytes: &[u8]) -> Result<(), Failed>
     ensures whole { OnOk result (S.written sink.new ≡ appended (S.written sink.old) bytes.now) }
     ensures front { OnErr result (IsFrontWritten (S.written sink.old) bytes.now (S.written sink.new)) }

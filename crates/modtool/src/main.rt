@@ -1,4 +1,5 @@
-//! The program `modtool`: the real tree, keeper, sinks, words and environment, handed to the one call that answers.
+//! The program `modtool`: the real tree, keeper, sinks, words and environment, handed to the one
+//! call that answers.
 #![tactic(auto)]
 
 mod surroundings;

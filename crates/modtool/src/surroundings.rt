@@ -4,7 +4,8 @@ use std::env;
 use std::env::{Env, FillError};
 use std::io::ErrorKind;
 
-/// The words behind the program's name. Where one of them isn't UTF-8 they spell no command, and none are given.
+/// The words behind the program's name. Where one of them isn't UTF-8 they spell no command, and
+/// none are given.
 pub fn words<R: Env + AllocGlobal>(rt: &R) -> Mem<Vec<String>> {
     let mut words = Vec::new(rt.alloc());
     match env::args(rt) {

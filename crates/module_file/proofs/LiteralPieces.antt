@@ -5,5 +5,6 @@ use Rattle.module_file.specs.LiteralLines.{line_of_pieces, not_literal, pieces_o
 use Rattle.std.specs.Prelude.{Err}
 
 -- behind a fifth quote no directive is left
-pub line_of_pieces-six : (a b c d e rest : List ℕ) → line_of_pieces (a ∷ b ∷ c ∷ d ∷ e ∷ pieces_of rest) ≡ Err not_literal
+pub line_of_pieces-six : (a b c d e rest : List ℕ)
+    → line_of_pieces (a ∷ b ∷ c ∷ d ∷ e ∷ pieces_of rest) ≡ Err not_literal
 line_of_pieces-six a b c d e rest = rw (split-cons (λ x. x == 34) rest).2 refl

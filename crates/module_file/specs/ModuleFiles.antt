@@ -1,4 +1,5 @@
--- What a module file in the literal form declares: Bazel, "MODULE.bazel files", functions `module` and `bazel_dep`, with the defaults of what is left out.
+-- What a module file in the literal form declares: Bazel, "MODULE.bazel files", functions `module`
+-- and `bazel_dep`, with the defaults of what is left out.
 use Rattle.std.specs.Prelude.{ℕ, ◌+◌, false, List, [], ◌∷◌, Result, Ok, Err}
 use Rattle.bz_base.specs.declared.declarations.Dep.{Dep}
 use Rattle.bz_base.specs.declared.declarations.ModuleDecl.{ModuleDecl}
@@ -8,7 +9,8 @@ use Rattle.bz_base.specs.declared.refusals.Code.TheVariants.{Form}
 use Rattle.bz_base.specs.Refusals.{refusal_of}
 use Rattle.module_file.specs.LiteralForms.{literal_lines}
 use Rattle.module_file.specs.declared.literal_line.LiteralLine.{LiteralLine}
-use Rattle.module_file.specs.declared.literal_line.LiteralLine.TheVariants.{Empty, Module, Dep as DepLine}
+use Rattle.module_file.specs.declared.literal_line.LiteralLine.TheVariants.{Empty, Module}
+use Rattle.module_file.specs.declared.literal_line.LiteralLine.TheVariants.{Dep as DepLine}
 use Rattle.module_file.specs.declared.literal_line.NotLiteral.{NotLiteral}
 
 abbrev pub form_refusal : Refusal
@@ -23,7 +25,8 @@ key_declared (DepLine key ∷ lines) = key_declared lines
 
 -- a dependency goes by its module's name
 abbrev pub dep_at : ℕ → Key → Dep
-dep_at line key = record { name = key.name; version = key.version; apparent = key.name; dev = false; line = line }
+dep_at line key = record
+    { name = key.name; version = key.version; apparent = key.name; dev = false; line = line }
 
 -- the dependencies of the lines from a number on
 abbrev pub deps_from : ℕ → List LiteralLine → List Dep
@@ -34,7 +37,16 @@ deps_from line (DepLine key ∷ lines) = dep_at line key ∷ deps_from (line + 1
 
 abbrev pub declared_with : Key → List Dep → ModuleDecl
 declared_with key deps =
-    record { name = key.name; version = key.version; level = 0; repo_name = key.name; deps = deps; nodeps = []; parts = []; overrides = [] }
+    record {
+      name = key.name;
+      version = key.version;
+      level = 0;
+      repo_name = key.name;
+      deps = deps;
+      nodeps = [];
+      parts = [];
+      overrides = [];
+    }
 
 abbrev pub declared_by : Result (List LiteralLine) NotLiteral → Result ModuleDecl Refusal
 declared_by (Ok lines) = Ok (declared_with (key_declared lines) (deps_from 1 lines))

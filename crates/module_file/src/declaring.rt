@@ -2,7 +2,8 @@
 ghost use Rattle.std.specs.Prelude.{◌≡◌, IfOk, Ok};
 ghost use Rattle.bz_text.specs.Answers.{Gives};
 ghost use Rattle.module_file.specs.LiteralForms.{literal_lines};
-ghost use Rattle.module_file.specs.ModuleFiles.{declared_by, declared_in, declared_with, dep_at, deps_from, form_refusal, key_declared};
+ghost use Rattle.module_file.specs.ModuleFiles.{declared_by, declared_in, declared_with, dep_at};
+ghost use Rattle.module_file.specs.ModuleFiles.{deps_from, form_refusal, key_declared};
 
 use crate::literal_form::read_lines;
 use crate::literal_line::LiteralLine;

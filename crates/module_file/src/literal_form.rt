@@ -1,9 +1,12 @@
-//! A module file in the literal form: ASCII lines that each end with a line feed, with `module` at most once and before every `bazel_dep`.
-ghost use Rattle.std.specs.Prelude.{◌≡◌, ◌∷◌, [], ◌<◌, length, nat_lt, Ok, IfNone, IfSome, is_some, false};
+//! A module file in the literal form: ASCII lines that each end with a line feed, with `module` at
+//! most once and before every `bazel_dep`.
+ghost use Rattle.std.specs.Prelude.{◌≡◌, ◌∷◌, [], ◌<◌, length, nat_lt, Ok, IfNone, IfSome, is_some};
+ghost use Rattle.std.specs.Prelude.{false};
 ghost use Rattle.std.specs.List.{list_all};
 ghost use Rattle.bz_text.specs.Answers.{Gives};
 ghost use Rattle.module_file.specs.LiteralLines.{line_of};
-ghost use Rattle.module_file.specs.LiteralForms.{end_of, is_in_order, lines_from, literal_lines, lines_in_order, texts_of, with_line};
+ghost use Rattle.module_file.specs.LiteralForms.{end_of, is_in_order, lines_from, literal_lines};
+ghost use Rattle.module_file.specs.LiteralForms.{lines_in_order, texts_of, with_line};
 
 use crate::literal_line::{LiteralLine, NotLiteral, read_line};
 use bz_base::{May, Miss, Seq, cut_at};

@@ -3,8 +3,10 @@ ghost use Rattle.std.specs.Prelude.{◌≡◌, ◌||◌, [], ◌∷◌, IfNone, 
 ghost use Rattle.std.specs.Char.{is_ascii_digit, is_ascii_lowercase};
 ghost use Rattle.std.specs.List.{list_all};
 ghost use Rattle.bz_text.specs.Answers.{Gives};
-ghost use Rattle.bz_base.specs.Names.{begins_and_goes_on, ends, is_joint, is_module_byte, is_module_name};
-ghost use Rattle.module_file.specs.LiteralLines.{key_of, line_of, line_of_pieces, line_with, pieces_of};
+ghost use Rattle.bz_base.specs.Names.{begins_and_goes_on, ends, is_joint, is_module_byte};
+ghost use Rattle.bz_base.specs.Names.{is_module_name};
+ghost use Rattle.module_file.specs.LiteralLines.{key_of, line_of, line_of_pieces, line_with};
+ghost use Rattle.module_file.specs.LiteralLines.{pieces_of};
 
 use bz_base::{Key, May, Miss, Txt, cut_at};
 use bz_version::Version;

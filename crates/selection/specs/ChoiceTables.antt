@@ -1,5 +1,6 @@
 -- The choice of each group, by its name.
-use Rattle.std.specs.Prelude.{◌≡◌, ℕ, Bool, false, not, List, slice_get, Option, String, bytes_eq, string_bytes}
+use Rattle.std.specs.Prelude.{◌≡◌, ℕ, Bool, false, not, List, slice_get, Option, String, bytes_eq}
+use Rattle.std.specs.Prelude.{string_bytes}
 use Rattle.std.specs.Map.{lookup}
 use Rattle.std.specs.Option.{option_map_or}
 use Rattle.std.specs.declared.alloc.Global.{Global}
@@ -17,4 +18,5 @@ HasChoices nodes entries = (name : List ℕ) → listed entries name ≡ choice 
 -- a node that is not superior to the choice so far leaves it
 abbrev pub is_kept : List GraphNode → GraphNode → Option ℕ → Bool
 is_kept nodes node chosen =
-    option_map_or (λ place. option_map_or (λ other. not (is_superior node other)) (slice_get nodes place) false) chosen false
+    option_map_or (λ place. option_map_or (λ other. not (is_superior node other)) (slice_get nodes
+    place) false) chosen false

@@ -1,5 +1,7 @@
--- The selected modules: Bazel, "Bazel modules", section "Version selection": of the versions of a module that are asked for the highest is chosen, and what the root then needs is selected.
-use Rattle.std.specs.Prelude.{ℕ, Bool, true, false, ◌&&◌, not, nat_eq, List, [], ◌∷◌, length, map, filter_map, slice_get, Option, None, Result, Ok, Err, bytes_eq}
+-- The selected modules: Bazel, "Bazel modules", section "Version selection": of the versions of a
+-- module that are asked for the highest is chosen, and what the root then needs is selected.
+use Rattle.std.specs.Prelude.{ℕ, Bool, true, false, ◌&&◌, not, nat_eq, List, [], ◌∷◌, length, map}
+use Rattle.std.specs.Prelude.{filter_map, slice_get, Option, None, Result, Ok, Err, bytes_eq}
 use Rattle.std.specs.List.{list_all, position_from}
 use Rattle.std.specs.Option.{option_map_or}
 use Rattle.std.specs.declared.cmp.Ordering.{Ordering}
@@ -27,7 +29,8 @@ is_superior one other = is_greater (precedence one.key.version other.key.version
 
 -- no member of the group is superior
 abbrev pub is_unsurpassed : List ℕ → List GraphNode → GraphNode → Bool
-is_unsurpassed name nodes node = list_all (λ other. not (is_member name other && is_superior other node)) nodes
+is_unsurpassed name nodes node = list_all
+    (λ other. not (is_member name other && is_superior other node)) nodes
 
 -- that member of the group to which no member is superior
 abbrev pub is_choice : List ℕ → List GraphNode → GraphNode → Bool
@@ -49,7 +52,8 @@ abbrev pub selection_rules : Rules ℕ Refusal
 selection_rules = record { same = nat_eq; bar = λ known place. None }
 
 abbrev pub selection : List GraphNode → Walk ℕ ℕ Refusal
-selection nodes = record { rules = selection_rules; read = λ place. Ok place; asks = chosen_at nodes }
+selection nodes = record
+    { rules = selection_rules; read = λ place. Ok place; asks = chosen_at nodes }
 
 -- level 0 is the root, the first node
 abbrev pub first_alone : Walked ℕ ℕ
@@ -57,17 +61,23 @@ first_alone = record { known = 0 ∷ []; nodes = [] }
 
 -- the places of the selected modules, in module order: the root and all further levels
 unfoldable pub places_walked : List GraphNode → Result (Walked ℕ ℕ) Refusal
-places_walked nodes = levels (selection nodes) (length nodes) (with_node (selection nodes) first_alone (Ok 0))
+places_walked nodes = levels (selection nodes) (length nodes)
+    (with_node (selection nodes) first_alone (Ok 0))
 
 -- the places among the selected modules
 abbrev pub places_in : List ℕ → List ℕ → List ℕ
 places_in selected places = filter_map (λ place. position_from (nat_eq place) 0 selected) places
 
 abbrev pub chosen_of : List GraphNode → List ℕ → ℕ → Chosen
-chosen_of nodes selected place = record { node = place; deps = places_in selected (chosen_at nodes place) }
+chosen_of nodes selected place = record {
+  node = place;
+  deps = places_in selected
+      (chosen_at nodes place);
+}
 
 abbrev pub selected_walked : List GraphNode → Result (Walked ℕ ℕ) Refusal → Result Selected Refusal
-selected_walked nodes (Ok walked) = Ok (record { modules = map (chosen_of nodes walked.nodes) walked.nodes })
+selected_walked nodes (Ok walked) = Ok
+    (record { modules = map (chosen_of nodes walked.nodes) walked.nodes })
 selected_walked nodes (Err refusal) = Err refusal
 
 -- of no nodes nothing is selected

@@ -16,7 +16,8 @@ pub record IsHighest (name : List ℕ) (nodes : List GraphNode) (place : ℕ) : 
   pub node : GraphNode
   pub there : slice_get nodes place ≡ Some node
   pub named : node.key.name ≡ name
-  pub highest : All (λ other. other.key.name ≡ name → precedence other.key.version node.key.version ≢ Greater) nodes
+  pub highest : All (λ other. other.key.name ≡ name → precedence other.key.version node.key.version
+      ≢ Greater) nodes
 
 -- no node has the name
 abbrev pub HasNone : List ℕ → List GraphNode → Type 0
@@ -24,20 +25,28 @@ HasNone name nodes = All (λ node. node.key.name ≢ name) nodes
 
 -- at the place stands the selected module whose node is the choice of the need
 abbrev pub NamesChoice : List GraphNode → List Chosen → ℕ → Key → Type 0
-NamesChoice nodes modules place need = IsSomeAnd (slice_get modules place) (λ needed. choice need.name nodes ≡ Some needed.node)
+NamesChoice nodes modules place need = IsSomeAnd (slice_get modules place)
+    (λ needed. choice need.name nodes ≡ Some needed.node)
 
 -- the dependencies of a selected module name the choices of its node's needs, in order
-pub record HasChosenDeps (nodes : List GraphNode) (modules : List Chosen) (chosen : Chosen) : Type 0 where
+pub record HasChosenDeps (nodes : List GraphNode) (modules : List Chosen)
+    (chosen : Chosen) : Type 0 where
   pub node : GraphNode
   pub there : slice_get nodes chosen.node ≡ Some node
   pub named : AllZip (NamesChoice nodes modules) chosen.deps node.needs
 
 -- where the test holds of a selected module's node, it holds of the choice of each of its needs
 abbrev pub HoldsOnChoices : (ℕ → Bool) → List GraphNode → List Chosen → Type 0
-HoldsOnChoices holds nodes modules = All (λ chosen. IsTrue (holds chosen.node) → All (λ place. IsTrue (holds place)) (chosen_at nodes chosen.node)) modules
+HoldsOnChoices holds nodes modules = All
+    (λ chosen. IsTrue (holds chosen.node)
+    → All (λ place. IsTrue (holds place)) (chosen_at nodes chosen.node)) modules
 
--- the root and all choices of the needs of what is selected, and nothing but those: each set with the first place and all choices of its members' needs has each selected node's place
+-- the root and all choices of the needs of what is selected, and nothing but those: each set with
+-- the first place and all choices of its members' needs has each selected node's place
 pub record IsSelection (graph : Graph) (selected : Selected) : Type 0 where
   pub selected_is : IsSelectedOf graph selected
   pub chosen : All (HasChosenDeps graph.nodes selected.modules) selected.modules
-  pub least : (holds : ℕ → Bool) → IsTrue (holds 0) → HoldsOnChoices holds graph.nodes selected.modules → All (λ chosen. IsTrue (holds chosen.node)) selected.modules
+  pub least : (holds : ℕ → Bool)
+      → IsTrue (holds 0)
+      → HoldsOnChoices holds graph.nodes selected.modules
+      → All (λ chosen. IsTrue (holds chosen.node)) selected.modules

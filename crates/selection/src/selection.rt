@@ -1,10 +1,13 @@
-//! The selected modules of a graph. One pass over the nodes lists the choice of each group by its name; then the root's choices are followed in order, each new one once.
-ghost use Rattle.std.specs.Prelude.{◌≡◌, ◌<◌, ◌++◌, ◌∷◌, [], IfOk, Ok, OnOk, filter_map, length, map, nat_eq, slice_get};
+//! The selected modules of a graph. One pass over the nodes lists the choice of each group by its
+//! name; then the root's choices are followed in order, each new one once.
+ghost use Rattle.std.specs.Prelude.{◌≡◌, ◌<◌, ◌++◌, ◌∷◌, [], IfOk, Ok, OnOk, filter_map, length};
+ghost use Rattle.std.specs.Prelude.{map, nat_eq, slice_get};
 ghost use Rattle.std.specs.List.{position_from};
 ghost use Rattle.indexmap.specs.IndexSet.{insert_all};
 ghost use Rattle.bz_text.specs.Answers.{Gives};
 ghost use Rattle.selection.specs.ChoiceTables.{HasChoices, is_kept, listed};
-ghost use Rattle.selection.specs.Selection.{chosen_at, chosen_of, is_superior, places_in, places_walked, selected_of, selected_of_nodes};
+ghost use Rattle.selection.specs.Selection.{chosen_at, chosen_of, is_superior, places_in};
+ghost use Rattle.selection.specs.Selection.{places_walked, selected_of, selected_of_nodes};
 
 use bz_base::{Chosen, Graph, GraphNode, Key, May, Mem, Refusal, Selected, Seq};
 use bz_version::order_texts;
@@ -92,7 +95,11 @@ fn listed(table: &IndexMap<String, u64>, name: &str) -> Option<u64>
 fn places(alloc: Global, nodes: &[GraphNode], table: &IndexMap<String, u64>) -> Mem<IndexSet<u64>>
     requires some { 0 < length nodes.now }
     requires choices { HasChoices nodes.now table.now.entries }
-    ensures { IfOk result (λ places. places_walked nodes.now ≡ Ok (record { known = places.keys; nodes = places.keys })) }
+    ensures { IfOk result (λ places. places_walked nodes.now ≡ Ok (record {
+      known = places.keys;
+      nodes =
+          places.keys;
+    })) }
 {
     let mut places = IndexSet::new(alloc);
     places.insert(0)?;
@@ -139,7 +146,8 @@ fn chosen_at(
 
 /// The choice of each of the needs, in order.
 fn chosen_needs(alloc: Global, table: &IndexMap<String, u64>, needs: &[Key]) -> Mem<Vec<u64>>
-    ensures { IfOk result (λ chosen. chosen.items ≡ filter_map (λ need. listed table.now.entries need.name) needs.now) }
+    ensures { IfOk result (λ chosen. chosen.items ≡ filter_map (λ need. listed table.now.entries
+        need.name) needs.now) }
 {
     let chosen = needs
         .iter()
@@ -156,7 +164,8 @@ fn modules(
     places: &IndexSet<u64>,
 ) -> Mem<Vec<Chosen>>
     requires { HasChoices nodes.now table.now.entries }
-    ensures { IfOk result (λ modules. modules.items ≡ map (chosen_of nodes.now places.now.keys) places.now.keys) }
+    ensures { IfOk result (λ modules. modules.items ≡ map (chosen_of nodes.now places.now.keys)
+        places.now.keys) }
 {
     let mut modules = Vec::new(alloc);
     for place in places.as_slice() {

@@ -1,10 +1,15 @@
 -- The functions of which speaks what is made of expressions.
-use Rattle.std.proofs.Common.{ℕ, false, List, [], ◌∷◌, ◌++◌, map, Option, Some, None, option_map, refl}
+use Rattle.std.proofs.Common.{ℕ, false, List, [], ◌∷◌, ◌++◌, map, Option, Some, None, option_map}
+use Rattle.std.proofs.Common.{refl}
 use Rattle.star_conditions.proofs.MentionsMade.{Tells, then, done, each-tells, function-tells}
 use Rattle.star_trees.proofs.Folds as is
-use Rattle.star_conditions.proofs.MeaningInduction.{ArgParts, ClauseParts, ExprParts, ParamParts, PairParts, meant-arg, meant-clause, meant-expr, meant-pair, meant-param, of-expr, of-param}
+use Rattle.star_conditions.proofs.MeaningInduction.{ArgParts, ClauseParts, ExprParts, ParamParts}
+use Rattle.star_conditions.proofs.MeaningInduction.{PairParts, meant-arg, meant-clause, meant-expr}
+use Rattle.star_conditions.proofs.MeaningInduction.{meant-pair, meant-param, of-expr, of-param}
 use Rattle.star_conditions.proofs.Trees.{With, bare}
-use Rattle.star_trees.specs.Mentions.{Mention, all_mentions, exprs_mention, maybe_mentions, mentions_of_arg, mentions_of_clause, mentions_of_expr, mentions_of_pair, mentions_of_param, mentions_of_target}
+use Rattle.star_trees.specs.Mentions.{Mention, all_mentions, exprs_mention, maybe_mentions}
+use Rattle.star_trees.specs.Mentions.{mentions_of_arg, mentions_of_clause, mentions_of_expr}
+use Rattle.star_trees.specs.Mentions.{mentions_of_pair, mentions_of_param, mentions_of_target}
 use Rattle.star_trees.specs.declared.trees.Arg as arg_tree
 use Rattle.star_trees.specs.declared.trees.BinOp.{BinOp}
 use Rattle.star_trees.specs.declared.trees.Clause as clause_tree
@@ -15,14 +20,25 @@ use Rattle.star_trees.specs.declared.trees.Target as target_tree
 use Rattle.star_trees.specs.declared.trees.UnOp.{UnOp}
 use Rattle.star_trees.specs.declared.files.Param.{Param}
 use Rattle.star_trees.specs.declared.files.Param.TheVariants as param_tree
-use Rattle.star_grammar.specs.declared.bare_expressions.BareArg.TheOpen.{BareArg-F, BareClause-F, BareExpr-F, BareParam-F}
+use Rattle.star_grammar.specs.declared.bare_expressions.BareArg.TheOpen.{BareArg-F, BareClause-F}
+use Rattle.star_grammar.specs.declared.bare_expressions.BareArg.TheOpen.{BareExpr-F, BareParam-F}
 use Rattle.star_grammar.specs.declared.bare_expressions.BareExpr.{BareExpr}
 use Rattle.star_grammar.specs.declared.bare_expressions.BareParam.{BareParam}
 use Rattle.star_trees.specs.Variables.{Names, variables}
-use Rattle.star_scopes.specs.ExprMaking.{arg_made, clause_made, expr_made, param_made, target_made, items_made, pairs_made, args_made, params_made, targets_made, maybe_made, list_made, tuple_made, dict_made, more_clauses_made, some_clauses_made, clauses_made, list_comp_made, dict_comp_made, unary_made, binary_made, cond_made, lambda_made, lambda_code, attr_made, index_made, slice_made, call_made, index_target, many_target, named_arg_made, optional_made, pair_made, for_clause_made}
-use Rattle.star_scopes.specs.ExprMeaning.{arg_meaning, arg_step, clause_meaning, clause_step, expr_step, meaning, pair_meaning, pair_step, param_meaning, param_step}
+use Rattle.star_scopes.specs.ExprMaking.{arg_made, clause_made, expr_made, param_made, target_made}
+use Rattle.star_scopes.specs.ExprMaking.{items_made, pairs_made, args_made, params_made}
+use Rattle.star_scopes.specs.ExprMaking.{targets_made, maybe_made, list_made, tuple_made, dict_made}
+use Rattle.star_scopes.specs.ExprMaking.{more_clauses_made, some_clauses_made, clauses_made}
+use Rattle.star_scopes.specs.ExprMaking.{list_comp_made, dict_comp_made, unary_made, binary_made}
+use Rattle.star_scopes.specs.ExprMaking.{cond_made, lambda_made, lambda_code, attr_made, index_made}
+use Rattle.star_scopes.specs.ExprMaking.{slice_made, call_made, index_target, many_target}
+use Rattle.star_scopes.specs.ExprMaking.{named_arg_made, optional_made, pair_made, for_clause_made}
+use Rattle.star_scopes.specs.ExprMeaning.{arg_meaning, arg_step, clause_meaning, clause_step}
+use Rattle.star_scopes.specs.ExprMeaning.{expr_step, meaning, pair_meaning, pair_step}
+use Rattle.star_scopes.specs.ExprMeaning.{param_meaning, param_step}
 use Rattle.star_scopes.specs.Making.{Making, ◌>>=◌, pure}
-use Rattle.star_scopes.specs.Meanings.{ArgMeaning, ClauseMeaning, ExprMeaning, PairMeaning, ParamMeaning}
+use Rattle.star_scopes.specs.Meanings.{ArgMeaning, ClauseMeaning, ExprMeaning, PairMeaning}
+use Rattle.star_scopes.specs.Meanings.{ParamMeaning}
 use Rattle.star_scopes.specs.Scopes.{variable}
 
 -- ---- meanings whose makings tell of their functions
@@ -69,30 +85,35 @@ module _ (free : Names) (scopes : List Names) where
   pub items-tells : (items : List ToldExpr)
       → Tells (of_each mentions_of_expr) [] (items_made free scopes (map meaning (map bare items)))
   unfolding items_made
-  items-tells = each-tells mentions_of_expr (λ item. item.expr free scopes) meaning (λ tree tells. tells.expr free scopes)
+  items-tells = each-tells mentions_of_expr (λ item. item.expr free scopes) meaning
+      (λ tree tells. tells.expr free scopes)
 
   pub pairs-tells : (pairs : List ToldPair)
       → Tells (of_each mentions_of_pair) []
       (pairs_made free scopes (map pair_meaning (map bare pairs)))
   unfolding pairs_made
-  pairs-tells = each-tells mentions_of_pair (λ pair. pair.pair free scopes) pair_meaning (λ tree tells. tells.pair free scopes)
+  pairs-tells = each-tells mentions_of_pair (λ pair. pair.pair free scopes) pair_meaning
+      (λ tree tells. tells.pair free scopes)
 
   pub args-tells : (args : List ToldArg)
       → Tells (of_each mentions_of_arg) [] (args_made free scopes (map arg_meaning (map bare args)))
   unfolding args_made
-  args-tells = each-tells mentions_of_arg (λ arg. arg.arg free scopes) arg_meaning (λ tree tells. tells.arg free scopes)
+  args-tells = each-tells mentions_of_arg (λ arg. arg.arg free scopes) arg_meaning
+      (λ tree tells. tells.arg free scopes)
 
   pub params-tells : (params : List ToldParam)
       → Tells (of_each mentions_of_param) []
       (params_made free scopes (map param_meaning (map bare params)))
   unfolding params_made
-  params-tells = each-tells mentions_of_param (λ param. param.param free scopes) param_meaning (λ tree tells. tells.param free scopes)
+  params-tells = each-tells mentions_of_param (λ param. param.param free scopes) param_meaning
+      (λ tree tells. tells.param free scopes)
 
   pub targets-tells : (targets : List ToldExpr)
       → Tells (of_each mentions_of_target) []
       (targets_made free scopes (map meaning (map bare targets)))
   unfolding targets_made
-  targets-tells = each-tells mentions_of_target (λ target. target.target free scopes) meaning (λ tree tells. tells.target free scopes)
+  targets-tells = each-tells mentions_of_target (λ target. target.target free scopes) meaning
+      (λ tree tells. tells.target free scopes)
 
   pub maybe-tells : (bound : Option ToldExpr)
       → Tells (λ made. maybe_mentions (option_map mentions_of_expr made)) []
@@ -123,11 +144,14 @@ module _ (free : Names) (scopes : List Names) where
       → Tells (of_each mentions_of_clause) []
       (more_clauses_made free scopes inner (map clause_meaning (map bare clauses)))
   unfolding more_clauses_made
-  more_clauses-tells inner = each-tells mentions_of_clause (λ clause. clause.clause free inner inner) clause_meaning (λ tree tells. tells.clause free inner inner)
+  more_clauses-tells inner = each-tells mentions_of_clause
+      (λ clause. clause.clause free inner inner) clause_meaning
+      (λ tree tells. tells.clause free inner inner)
 
   pub some_clauses-tells : (inner : List Names) (first : ToldClause) (more : List ToldClause)
       → Tells (of_each mentions_of_clause) []
-      (some_clauses_made free scopes inner (clause_meaning first.0) (map clause_meaning (map bare more)))
+      (some_clauses_made free scopes inner (clause_meaning first.0)
+      (map clause_meaning (map bare more)))
   unfolding some_clauses_made
   some_clauses-tells inner first more =
       then (first.1.clause free inner scopes) (λ made.
@@ -146,26 +170,31 @@ module _ (free : Names) (scopes : List Names) where
       (list_comp_made free scopes (meaning item.0) (map clause_meaning (map bare clauses)))
   unfolding list_comp_made
   list_comp-tells item clauses =
-      let inner = variables (map (λ clause. clause.bound) (map clause_meaning (map bare clauses))) ∷ scopes in
+      let inner = variables
+      (map (λ clause. clause.bound) (map clause_meaning (map bare clauses))) ∷ scopes in
       then (item.1.expr free inner) (λ made.
       then (clauses-tells inner clauses) (λ others.
       done (e.ListComp made others) (is.fold_expr-ListComp exprs_mention made others)))
 
   pub dict_comp-tells : (key value : ToldExpr) (clauses : List ToldClause)
       → Tells mentions_of_expr []
-      (dict_comp_made free scopes (meaning key.0) (meaning value.0) (map clause_meaning (map bare clauses)))
+      (dict_comp_made free scopes (meaning key.0) (meaning value.0)
+      (map clause_meaning (map bare clauses)))
   unfolding dict_comp_made
   dict_comp-tells key value clauses =
-      let inner = variables (map (λ clause. clause.bound) (map clause_meaning (map bare clauses))) ∷ scopes in
+      let inner = variables
+      (map (λ clause. clause.bound) (map clause_meaning (map bare clauses))) ∷ scopes in
       then (key.1.expr free inner) (λ made_key.
       then (value.1.expr free inner) (λ made.
       then (clauses-tells inner clauses) (λ others.
-      done (e.DictComp made_key made others) (is.fold_expr-DictComp exprs_mention made_key made others))))
+      done (e.DictComp made_key made others)
+      (is.fold_expr-DictComp exprs_mention made_key made others))))
 
   pub unary-tells : (op : UnOp) (operand : ToldExpr)
       → Tells mentions_of_expr [] (unary_made free scopes op (meaning operand.0))
   unfolding unary_made
-  unary-tells op operand = then (operand.1.expr free scopes) (λ made. done (e.Unary op made) (is.fold_expr-Unary exprs_mention op made))
+  unary-tells op operand = then (operand.1.expr free scopes)
+      (λ made. done (e.Unary op made) (is.fold_expr-Unary exprs_mention op made))
 
   pub binary-tells : (op : BinOp) (left right : ToldExpr)
       → Tells mentions_of_expr [] (binary_made free scopes op (meaning left.0) (meaning right.0))
@@ -183,16 +212,23 @@ module _ (free : Names) (scopes : List Names) where
       then (chosen.1.expr free scopes) (λ made_chosen.
       then (test.1.expr free scopes) (λ made_test.
       then (other.1.expr free scopes) (λ made_other.
-      done (e.Cond made_test made_chosen made_other) (is.fold_expr-Cond exprs_mention made_test made_chosen made_other))))
+      done (e.Cond made_test made_chosen made_other)
+      (is.fold_expr-Cond exprs_mention made_test made_chosen made_other))))
 
   pub lambda-tells : (params : List ToldParam) (body : ToldExpr) (line : ℕ)
       → Tells mentions_of_expr []
       (lambda_made free scopes (map param_meaning (map bare params)) (meaning body.0) line)
   unfolding lambda_made
   lambda-tells params body line =
-      let inner = variables (map (λ param. param.bound) (map param_meaning (map bare params))) ∷ scopes in
-      let parts : Making (List Param × Expr) = params_made free scopes (map param_meaning (map bare params)) >>= (λ made_params. (meaning body.0).expr free inner >>= (λ made. pure (made_params, made))) in
-      function-tells {f = λ (both : List Param × Expr). of_each mentions_of_param both.0 ++ mentions_of_expr both.1} false parts (λ made. lambda_code made.0 made.1 line) (λ index. e.Lambda index)
+      let inner = variables
+      (map (λ param. param.bound) (map param_meaning (map bare params))) ∷ scopes in
+      let parts : Making (List Param × Expr) = params_made free scopes
+      (map param_meaning (map bare params)) >>=
+      (λ made_params. (meaning body.0).expr free inner >>=
+      (λ made. pure (made_params, made))) in
+      function-tells {f = λ (both : List Param × Expr). of_each mentions_of_param both.0
+      ++ mentions_of_expr both.1} false parts (λ made. lambda_code made.0 made.1 line)
+      (λ index. e.Lambda index)
       (then (params-tells params) (λ made_params.
       then (body.1.expr free inner) (λ made.
       done (made_params, made) refl)))
@@ -203,7 +239,8 @@ module _ (free : Names) (scopes : List Names) where
   pub attr-tells : (container : ToldExpr) (name : List ℕ)
       → Tells mentions_of_expr [] (attr_made free scopes (meaning container.0) name)
   unfolding attr_made
-  attr-tells container name = then (container.1.expr free scopes) (λ made. done (e.Attr made name) (is.fold_expr-Attr exprs_mention made name))
+  attr-tells container name = then (container.1.expr free scopes)
+      (λ made. done (e.Attr made name) (is.fold_expr-Attr exprs_mention made name))
 
   pub index-tells : (container at : ToldExpr)
       → Tells mentions_of_expr [] (index_made free scopes (meaning container.0) (meaning at.0))
@@ -215,14 +252,16 @@ module _ (free : Names) (scopes : List Names) where
 
   pub slice-tells : (container : ToldExpr) (begin end step : Option ToldExpr)
       → Tells mentions_of_expr []
-      (slice_made free scopes (meaning container.0) (option_map meaning (option_map bare begin)) (option_map meaning (option_map bare end)) (option_map meaning (option_map bare step)))
+      (slice_made free scopes (meaning container.0) (option_map meaning (option_map bare begin))
+      (option_map meaning (option_map bare end)) (option_map meaning (option_map bare step)))
   unfolding slice_made
   slice-tells container begin end step =
       then (container.1.expr free scopes) (λ made.
       then (maybe-tells begin) (λ made_begin.
       then (maybe-tells end) (λ made_end.
       then (maybe-tells step) (λ made_step.
-      done (e.Slice made made_begin made_end made_step) (is.fold_expr-Slice exprs_mention made made_begin made_end made_step)))))
+      done (e.Slice made made_begin made_end made_step)
+      (is.fold_expr-Slice exprs_mention made made_begin made_end made_step)))))
 
   pub call-tells : (function : ToldExpr) (args : List ToldArg)
       → Tells mentions_of_expr []
@@ -244,12 +283,14 @@ module _ (free : Names) (scopes : List Names) where
   pub many_target-tells : (targets : List ToldExpr)
       → Tells mentions_of_target [] (many_target free scopes (map meaning (map bare targets)))
   unfolding many_target
-  many_target-tells targets = then (targets-tells targets) (λ made. done (target_tree.Many made) (is.fold_target-Many exprs_mention made))
+  many_target-tells targets = then (targets-tells targets)
+      (λ made. done (target_tree.Many made) (is.fold_target-Many exprs_mention made))
 
   pub named_arg-tells : (name : List ℕ) (value : ToldExpr)
       → Tells mentions_of_arg [] (named_arg_made free scopes name (meaning value.0))
   unfolding named_arg_made
-  named_arg-tells name value = then (value.1.expr free scopes) (λ made. done (arg_tree.Named name made) (is.fold_arg-Named exprs_mention name made))
+  named_arg-tells name value = then (value.1.expr free scopes)
+      (λ made. done (arg_tree.Named name made) (is.fold_arg-Named exprs_mention name made))
 
   pub optional-tells : (name : List ℕ) (default : ToldExpr)
       → Tells mentions_of_param [] (optional_made free scopes name (meaning default.0))
@@ -263,7 +304,8 @@ module _ (free : Names) (scopes : List Names) where
   pair-tells key value =
       then (key.1.expr free scopes) (λ made_key.
       then (value.1.expr free scopes) (λ made.
-      done (roll-ExprPair (record { key = made_key; value = made })) (is.fold_pair-roll exprs_mention made_key made)))
+      done (roll-ExprPair (record { key = made_key; value = made }))
+      (is.fold_pair-roll exprs_mention made_key made)))
 
 pub for_clause-tells : (free : Names) (inner around : List Names) (to over : ToldExpr)
     → Tells mentions_of_clause []
@@ -340,10 +382,13 @@ arg-layer :
     (scopes : List Names)
     → Tells mentions_of_arg []
     (arg_made (meant-arg ArgTells ClauseTells ExprTells ParamTells PairTells layer) free scopes)
-arg-layer (BareArg-F.Positional value) free scopes = then (value.1.expr free scopes) (λ made. done (arg_tree.Positional made) (is.fold_arg-Positional exprs_mention made))
+arg-layer (BareArg-F.Positional value) free scopes = then (value.1.expr free scopes)
+    (λ made. done (arg_tree.Positional made) (is.fold_arg-Positional exprs_mention made))
 arg-layer (BareArg-F.Named name value) free scopes = named_arg-tells free scopes name value
-arg-layer (BareArg-F.Star value line) free scopes = then (value.1.expr free scopes) (λ made. done (arg_tree.Star made) (is.fold_arg-Star exprs_mention made))
-arg-layer (BareArg-F.DoubleStar value line) free scopes = then (value.1.expr free scopes) (λ made. done (arg_tree.DoubleStar made) (is.fold_arg-DoubleStar exprs_mention made))
+arg-layer (BareArg-F.Star value line) free scopes = then (value.1.expr free scopes)
+    (λ made. done (arg_tree.Star made) (is.fold_arg-Star exprs_mention made))
+arg-layer (BareArg-F.DoubleStar value line) free scopes = then (value.1.expr free scopes)
+    (λ made. done (arg_tree.DoubleStar made) (is.fold_arg-DoubleStar exprs_mention made))
 
 param-layer :
     (layer : ParamParts ArgTells ClauseTells ExprTells ParamTells PairTells) (free : Names)
@@ -361,10 +406,12 @@ clause-layer :
     (layer : ClauseParts ArgTells ClauseTells ExprTells ParamTells PairTells) (free : Names)
     (inner around : List Names)
     → Tells mentions_of_clause []
-    (clause_made (meant-clause ArgTells ClauseTells ExprTells ParamTells PairTells layer) free inner around)
+    (clause_made (meant-clause ArgTells ClauseTells ExprTells ParamTells PairTells layer) free inner
+    around)
 clause-layer (BareClause-F.For to over) free inner around =
     for_clause-tells free inner around to over
-clause-layer (BareClause-F.If test) free inner around = then (test.1.expr free inner) (λ made. done (clause_tree.If made) (is.fold_clause-If exprs_mention made))
+clause-layer (BareClause-F.If test) free inner around = then (test.1.expr free inner)
+    (λ made. done (clause_tree.If made) (is.fold_clause-If exprs_mention made))
 
 -- ---- each tree is such
 
@@ -391,7 +438,9 @@ one_pair-tells : (layer : PairParts ArgTells ClauseTells ExprTells ParamTells Pa
 one_pair-tells layer = record { pair = λ free scopes. pair-tells free scopes layer.key layer.value }
 
 pub expr-tells : (tree : BareExpr) → ExprTells (meaning tree)
-expr-tells = of-expr ArgTells ClauseTells ExprTells ParamTells PairTells arg-tells clause-tells layer-tells one_param-tells one_pair-tells
+expr-tells = of-expr ArgTells ClauseTells ExprTells ParamTells PairTells arg-tells clause-tells
+    layer-tells one_param-tells one_pair-tells
 
 pub param-tells : (tree : BareParam) → ParamTells (param_meaning tree)
-param-tells = of-param ArgTells ClauseTells ExprTells ParamTells PairTells arg-tells clause-tells layer-tells one_param-tells one_pair-tells
+param-tells = of-param ArgTells ClauseTells ExprTells ParamTells PairTells arg-tells clause-tells
+    layer-tells one_param-tells one_pair-tells

@@ -1,8 +1,10 @@
 -- Resolved files are nested no deeper than their texts.
-use Rattle.std.proofs.Common.{◌≡◌, ℕ, ◌≤◌, List, [], ◌∷◌, map, All, Result, Ok, Err, arith, le_trans, subst, IfOk}
+use Rattle.std.proofs.Common.{◌≡◌, ℕ, ◌≤◌, List, [], ◌∷◌, map, All, Result, Ok, Err, arith}
+use Rattle.std.proofs.Common.{le_trans, subst, IfOk}
 use Rattle.std.proofs.lemmas.List.Elements.{All-head, All-same, All-tail}
 use Rattle.star_conditions.proofs.ExpressionNesting as expression
-use Rattle.star_conditions.proofs.ExpressionNesting.{Shallow, ExprNested, ArgNested, ClauseNested, ParamNested, PairNested}
+use Rattle.star_conditions.proofs.ExpressionNesting.{Shallow, ExprNested, ArgNested, ClauseNested}
+use Rattle.star_conditions.proofs.ExpressionNesting.{ParamNested, PairNested}
 use Rattle.star_conditions.proofs.Conditions.{Conditions, ExpressionsKeep, StatementsKeep}
 use Rattle.star_conditions.proofs.SpelledStatements.{IsFile-held}
 use Rattle.star_conditions.proofs.StatementNesting as statement
@@ -17,11 +19,19 @@ use Rattle.star_grammar.specs.Texts.{Spelled}
 use Rattle.star_trees.specs.Variables.{Names}
 use Rattle.star_scopes.specs.declared.dialects.Dialect.{Dialect}
 use Rattle.star_scopes.specs.declared.unbound.Unbound.{Unbound}
-use Rattle.star_scopes.specs.Files.{file_scopes, file_with, free_names, no_lists, resolved, with_free}
+use Rattle.star_scopes.specs.Files.{file_scopes, file_with, free_names, no_lists, resolved}
+use Rattle.star_scopes.specs.Files.{with_free}
 
 -- what is made of a tree is no deeper than the tree
 abbrev nesting : Conditions
-nesting = record { expr = ExprNested; arg = ArgNested; clause = ClauseNested; param = ParamNested; pair = PairNested; stmt = λ inside. StmtNested }
+nesting = record {
+  expr = ExprNested;
+  arg = ArgNested;
+  clause = ClauseNested;
+  param = ParamNested;
+  pair = PairNested;
+  stmt = λ inside. StmtNested;
+}
 
 expressions-nested : ExpressionsKeep nesting
 expressions-nested = record {
@@ -70,31 +80,55 @@ statements-nested = record {
   continues = λ inside line may. statement.continues-within line;
   passes = λ inside line. statement.passes-within line;
   loads = λ inside line n file names may. statement.loads-within line n file names;
-  assigned = λ inside line n to value target so also. statement.assigned-within line n to value so also;
-  changed = λ inside line n place op value named so also. statement.changed-within line n place op value so also;
+  assigned = λ inside line n to value target so also. statement.assigned-within line n to value so
+      also;
+  changed = λ inside line n place op value named so also. statement.changed-within line n place op
+      value so also;
   valued = λ inside line n value so. statement.valued-within line n value so;
-  def = λ inside line n name params body less are all some. statement.def-within line n name params body less all some;
-  branch = λ inside line n test chosen other so all more. statement.branch-within line n test chosen other so all more;
-  loop = λ inside line n to over body target so also all. statement.loop-within line n to over body so also all;
+  def = λ inside line n name params body less are all some. statement.def-within line n name params
+      body less all some;
+  branch = λ inside line n test chosen other so all more. statement.branch-within line n test chosen
+      other so all more;
+  loop = λ inside line n to over body target so also all. statement.loop-within line n to over body
+      so also all;
 }
 
-greatest-all : {A : Type 0} (depth : A → ℕ) (n : ℕ) (xs : List A) → All (λ x. depth x ≤ n) xs → greatest (map depth xs) ≤ n
+greatest-all : {A : Type 0} (depth : A → ℕ) (n : ℕ) (xs : List A)
+    → All (λ x. depth x ≤ n) xs
+    → greatest (map depth xs) ≤ n
 greatest-all depth n [] all = omega arith
-greatest-all depth n (x ∷ xs) all = let one = All-head (λ y. depth y ≤ n) x xs all in let more = greatest-all depth n xs (All-tail (λ y. depth y ≤ n) x xs all) in omega (arith, one, more)
+greatest-all depth n (x ∷ xs) all = let one = All-head
+    (λ y. depth y ≤ n) x xs all in let more = greatest-all depth n xs
+    (All-tail (λ y. depth y ≤ n) x xs all) in omega (arith, one, more)
 
-file_with-nested : (free : Names) (body : List BareStmt) (n : ℕ) → n ≤ 128 → All (StmtNested n) body → NestedWithin 128 (file_with free body)
+file_with-nested : (free : Names) (body : List BareStmt) (n : ℕ)
+    → n ≤ 128
+    → All (StmtNested n) body
+    → NestedWithin 128 (file_with free body)
 file_with-nested free body n few all =
     let made = body-nested free (file_scopes body) n body all in
     record {
       body = le_trans (made.value no_lists) few;
-      functions = let added = made.added no_lists in greatest-all depth_of_code 128 _ (All-same Shallow _ added.more added.is added.right);
+      functions = let added = made.added no_lists in greatest-all depth_of_code 128 _
+          (All-same Shallow _ added.more added.is added.right);
     }
 
-with_free-nested : (body : List BareStmt) (n : ℕ) → n ≤ 128 → All (StmtNested n) body → (free : Result Names Unbound) (file : File) → with_free body free ≡ Ok file → NestedWithin 128 file
-with_free-nested body n few all (Ok free) file is = subst (λ result. IfOk result (NestedWithin 128)) is (file_with-nested free body n few all)
-with_free-nested body n few all (Err unbound) file is = subst (λ result. IfOk result (NestedWithin 128)) is tt
+with_free-nested : (body : List BareStmt) (n : ℕ)
+    → n ≤ 128
+    → All (StmtNested n) body
+    → (free : Result Names Unbound) (file : File)
+    → with_free body free ≡ Ok file
+    → NestedWithin 128 file
+with_free-nested body n few all (Ok free) file is = subst
+    (λ result. IfOk result (NestedWithin 128)) is (file_with-nested free body n few all)
+with_free-nested body n few all (Err unbound) file is = subst
+    (λ result. IfOk result (NestedWithin 128)) is tt
 
-pub resolved-nested : (dialect : Dialect) (text : List ℕ) (tree : BareFile) (file : File) → Spelled text tree → resolved dialect tree.body ≡ Ok file → NestedWithin 128 file
+pub resolved-nested : (dialect : Dialect) (text : List ℕ) (tree : BareFile) (file : File)
+    → Spelled text tree
+    → resolved dialect tree.body ≡ Ok file
+    → NestedWithin 128 file
 resolved-nested dialect text tree file so is =
-    let all = IsFile-held nesting expressions-nested statements-nested (symbols_of text so.tokens) tree so.spelled in
+    let all = IsFile-held nesting expressions-nested statements-nested
+    (symbols_of text so.tokens) tree so.spelled in
     with_free-nested tree.body all.0 all.1 all.2 (free_names dialect tree.body) file is

@@ -1,6 +1,8 @@
 -- What is made, beside the functions of which it speaks: each of those that are added is mentioned
 -- once, by the value or by the code of another.
-use Rattle.std.proofs.Common.{◌≡◌, ℕ, zero, suc, ◌+◌, ◌<◌, ◌≢◌, Bool, true, false, true≢false, eqb, cond, List, [], ◌∷◌, ◌++◌, length, map, get_or, set, All, arith, append-nil, append_assoc, ap, refl, sym, subst, ◌∙◌, length-append}
+use Rattle.std.proofs.Common.{◌≡◌, ℕ, zero, suc, ◌+◌, ◌<◌, ◌≢◌, Bool, true, false, true≢false, eqb}
+use Rattle.std.proofs.Common.{cond, List, [], ◌∷◌, ◌++◌, length, map, get_or, set, All, arith}
+use Rattle.std.proofs.Common.{append-nil, append_assoc, ap, refl, sym, subst, ◌∙◌, length-append}
 use Rattle.std.proofs.Math.Seq.{get_or-append_seam}
 use Rattle.std.proofs.lemmas.Bool.{eqb-true, eqb-false}
 use Rattle.std.proofs.lemmas.List.Elements.{All-append, All-cons, All-nil, All-same, All-weaker}
@@ -8,7 +10,8 @@ use Rattle.star_conditions.proofs.Made.{set-behind}
 use Rattle.star_conditions.proofs.Trees.{Lists}
 use Rattle.star_scopes.specs.Making.{Making, ◌>>=◌, ◌>>◌, pure, each, begin, finish, load}
 use Rattle.star_trees.specs.Functions.{unfinished_code}
-use Rattle.star_trees.specs.Mentions.{Fits, Mention, all_mentions, is_code_of, mention_count, mentions_of_code}
+use Rattle.star_trees.specs.Mentions.{Fits, Mention, all_mentions, is_code_of, mention_count}
+use Rattle.star_trees.specs.Mentions.{mentions_of_code}
 use Rattle.star_trees.specs.declared.files.FnCode.{FnCode}
 use Rattle.star_trees.specs.declared.loads.Load.{Load}
 

@@ -1,11 +1,14 @@
 -- The functions of which speaks what is made of statements.
 use Rattle.std.proofs.Common.{ℕ, true, List, [], ◌∷◌, ◌++◌, map, Option, Some, None, refl}
 use Rattle.star_conditions.proofs.ExpressionMentions.{of_each, expr-tells, param-tells}
-use Rattle.star_conditions.proofs.MeaningInduction.{KindParts, StmtParts, meant-kind, meant-stmt, of-stmt}
+use Rattle.star_conditions.proofs.MeaningInduction.{KindParts, StmtParts, meant-kind, meant-stmt}
+use Rattle.star_conditions.proofs.MeaningInduction.{of-stmt}
 use Rattle.star_conditions.proofs.Trees.{With, bare}
-use Rattle.star_conditions.proofs.MentionsMade.{Tells, then, done, each-tells, each-surely, function-tells, load-tells}
+use Rattle.star_conditions.proofs.MentionsMade.{Tells, then, done, each-tells, each-surely}
+use Rattle.star_conditions.proofs.MentionsMade.{function-tells, load-tells}
 use Rattle.star_trees.proofs.Folds as is
-use Rattle.star_trees.specs.Mentions.{mentions_of_kind, mentions_of_param, mentions_of_stmt, stmts_mention}
+use Rattle.star_trees.specs.Mentions.{mentions_of_kind, mentions_of_param, mentions_of_stmt}
+use Rattle.star_trees.specs.Mentions.{stmts_mention}
 use Rattle.star_trees.specs.declared.files.Param.{Param}
 use Rattle.star_trees.specs.declared.trees.Stmt.{Stmt}
 use Rattle.star_trees.specs.declared.trees.BinOp.{BinOp}
@@ -24,7 +27,9 @@ use Rattle.star_scopes.specs.ExprMeaning.{param_meaning}
 use Rattle.star_scopes.specs.Making.{Making, ◌>>=◌, pure}
 use Rattle.star_scopes.specs.Meanings.{KindMeaning, StmtMeaning}
 use Rattle.star_scopes.specs.Scopes.{variable}
-use Rattle.star_scopes.specs.StatementMaking.{def_code, load_of, load_made, body_made, if_made, for_made, return_made, assign_made, augment_made, value_made, def_made, kind_made, stmt_made}
+use Rattle.star_scopes.specs.StatementMaking.{def_code, load_of, load_made, body_made, if_made}
+use Rattle.star_scopes.specs.StatementMaking.{for_made, return_made, assign_made, augment_made}
+use Rattle.star_scopes.specs.StatementMaking.{value_made, def_made, kind_made, stmt_made}
 use Rattle.star_scopes.specs.StatementMeaning.{kind_meaning, kind_step, stmt_meaning, stmt_step}
 
 pub record KindTells (m : KindMeaning) : Type 0 where
@@ -51,23 +56,27 @@ module _ (free : Names) (scopes : List Names) where
   all_params-tells : (params : List BareParam)
       → Tells (of_each mentions_of_param) [] (params_made free scopes (map param_meaning params))
   unfolding params_made
-  all_params-tells = each-surely mentions_of_param (λ param. param.param free scopes) param_meaning (λ tree. (param-tells tree).param free scopes)
+  all_params-tells = each-surely mentions_of_param (λ param. param.param free scopes) param_meaning
+      (λ tree. (param-tells tree).param free scopes)
 
   body-tells : (body : List ToldStmt)
       → Tells (of_each mentions_of_stmt) []
       (body_made free scopes (map stmt_meaning (map bare body)))
   unfolding body_made
-  body-tells = each-tells mentions_of_stmt (λ statement. statement.stmt free scopes) stmt_meaning (λ tree tells. tells.stmt free scopes)
+  body-tells = each-tells mentions_of_stmt (λ statement. statement.stmt free scopes) stmt_meaning
+      (λ tree tells. tells.stmt free scopes)
 
   if-tells : (test : BareExpr) (chosen other : List ToldStmt)
       → Tells mentions_of_kind []
-      (if_made free scopes test (map stmt_meaning (map bare chosen)) (map stmt_meaning (map bare other)))
+      (if_made free scopes test (map stmt_meaning (map bare chosen))
+      (map stmt_meaning (map bare other)))
   unfolding if_made
   if-tells test chosen other =
       then ((expr-tells test).expr free scopes) (λ made.
       then (body-tells chosen) (λ made_chosen.
       then (body-tells other) (λ made_other.
-      done (st.If made made_chosen made_other) (is.fold_kind-If stmts_mention made made_chosen made_other))))
+      done (st.If made made_chosen made_other)
+      (is.fold_kind-If stmts_mention made made_chosen made_other))))
 
   for-tells : (to over : BareExpr) (body : List ToldStmt)
       → Tells mentions_of_kind [] (for_made free scopes to over (map stmt_meaning (map bare body)))
@@ -76,7 +85,8 @@ module _ (free : Names) (scopes : List Names) where
       then ((expr-tells to).target free scopes) (λ made_to.
       then ((expr-tells over).expr free scopes) (λ made_over.
       then (body-tells body) (λ made.
-      done (st.For made_to made_over made) (is.fold_kind-For stmts_mention made_to made_over made))))
+      done (st.For made_to made_over made)
+      (is.fold_kind-For stmts_mention made_to made_over made))))
 
   return-tells : (value : Option BareExpr)
       → Tells mentions_of_kind [] (return_made free scopes value)
@@ -115,10 +125,16 @@ def-tells :
     (def_made free scopes name params (map stmt_meaning (map bare body)) line)
 unfolding def_made
 def-tells free scopes name params body line =
-    let inner = function_variables (map (λ param. param.bound) (map param_meaning params)) (map (λ one. one.bound) (map stmt_meaning (map bare body))) ∷ scopes in
+    let inner = function_variables (map (λ param. param.bound) (map param_meaning params))
+    (map (λ one. one.bound) (map stmt_meaning (map bare body))) ∷ scopes in
     let to = variable free scopes name.name in
-    let parts : Making (List Param × List Stmt) = params_made free scopes (map param_meaning params) >>= (λ made_params. body_made free inner (map stmt_meaning (map bare body)) >>= (λ made. pure (made_params, made))) in
-    function-tells {f = λ (both : List Param × List Stmt). of_each mentions_of_param both.0 ++ of_each mentions_of_stmt both.1} true parts (λ made. def_code name.name made.0 made.1 line) (λ index. st.Def index to)
+    let parts : Making (List Param × List Stmt) = params_made free scopes
+    (map param_meaning params) >>=
+    (λ made_params. body_made free inner (map stmt_meaning (map bare body)) >>=
+    (λ made. pure (made_params, made))) in
+    function-tells {f = λ (both : List Param × List Stmt). of_each mentions_of_param both.0
+    ++ of_each mentions_of_stmt both.1} true parts
+    (λ made. def_code name.name made.0 made.1 line) (λ index. st.Def index to)
     (then (all_params-tells free scopes params) (λ made_params.
     then (body-tells free inner body) (λ made.
     done (made_params, made) refl)))
@@ -151,7 +167,8 @@ stmt-layer : (kind : ToldKind) (line : ℕ) (free : Names) (scopes : List Names)
 unfolding stmt_made
 stmt-layer kind line free scopes =
     then (kind.1.kind line free scopes) (λ made.
-    done (roll-Stmt (record { line = line; kind = made })) (is.fold_stmt-roll stmts_mention line made))
+    done (roll-Stmt (record { line = line; kind = made }))
+    (is.fold_stmt-roll stmts_mention line made))
 
 -- ---- each tree is such
 
@@ -169,4 +186,6 @@ stmt-tells = of-stmt KindTells StmtTells kind-tells layer-tells
 pub all-tells : (free : Names) (scopes : List Names) (body : List BareStmt)
     → Tells (of_each mentions_of_stmt) [] (body_made free scopes (map stmt_meaning body))
 unfolding body_made
-all-tells free scopes = each-surely mentions_of_stmt (λ statement. statement.stmt free scopes) stmt_meaning (λ tree. (stmt-tells tree).stmt free scopes)
+all-tells free scopes = each-surely mentions_of_stmt
+    (λ statement. statement.stmt free scopes) stmt_meaning
+    (λ tree. (stmt-tells tree).stmt free scopes)

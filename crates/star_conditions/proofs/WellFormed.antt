@@ -10,7 +10,10 @@ use Rattle.star_grammar.specs.declared.bare_statements.BareFile.{BareFile}
 use Rattle.star_scopes.specs.Files.{resolved}
 use Rattle.star_scopes.specs.declared.dialects.Dialect.{Dialect}
 
-pub resolved-well_formed : (dialect : Dialect) (text : List ℕ) (tree : BareFile) (file : File) → Spelled text tree → resolved dialect tree.body ≡ Ok file → WellFormed file
+pub resolved-well_formed : (dialect : Dialect) (text : List ℕ) (tree : BareFile) (file : File)
+    → Spelled text tree
+    → resolved dialect tree.body ≡ Ok file
+    → WellFormed file
 resolved-well_formed dialect text tree file spelled is = record {
   indexes = resolved-indexes dialect tree.body file is;
   functions = resolved-functions dialect tree.body file is;

@@ -17,35 +17,57 @@ ghost use Rattle.star_scopes.specs.Files.{resolved};
 
 /// Each function and each load that a resolved file's trees speak of is one of the file's.
 pub fn indexes_are_there()
-    ensures { (dialect : Dialect) (body : List BareStmt) (file : File) → resolved dialect body ≡ Ok file → IndexesAreThere file }
+    ensures { (dialect : Dialect) (body : List BareStmt) (file : File)
+        → resolved dialect body ≡ Ok file
+        → IndexesAreThere file }
 {}
 
-/// The trees of a resolved file speak of each of its functions once, by a `def` or a `lambda` as the function is one.
+/// The trees of a resolved file speak of each of its functions once, by a `def` or a `lambda` as
+/// the function is one.
 pub fn functions_are_mentioned()
-    ensures { (dialect : Dialect) (body : List BareStmt) (file : File) → resolved dialect body ≡ Ok file → FunctionsAreMentioned file }
+    ensures { (dialect : Dialect) (body : List BareStmt) (file : File)
+        → resolved dialect body ≡ Ok file
+        → FunctionsAreMentioned file }
 {}
 
-/// Each variable of a resolved file stands at the scope and the slot that its name has there, counted again from the file's trees.
+/// Each variable of a resolved file stands at the scope and the slot that its name has there,
+/// counted again from the file's trees.
 pub fn variables_are_counted()
-    ensures { (dialect : Dialect) (body : List BareStmt) (file : File) → resolved dialect body ≡ Ok file → VariablesAreCounted file }
+    ensures { (dialect : Dialect) (body : List BareStmt) (file : File)
+        → resolved dialect body ≡ Ok file
+        → VariablesAreCounted file }
 {}
 
-/// A variable that is counted right has its name at its slot, in one of the scopes round it or among the free names behind them.
+/// A variable that is counted right has its name at its slot, in one of the scopes round it or
+/// among the free names behind them.
 pub fn counted_variables_stand_there()
-    ensures { (free : Names) (scopes : List Names) (variable : Var) → variable_counted free variable scopes ≡ true → StandsThere free scopes variable }
+    ensures { (free : Names) (scopes : List Names) (variable : Var)
+        → variable_counted free variable scopes ≡ true
+        → StandsThere free scopes variable }
 {}
 
-/// No tree of a file that is spelled and resolved, and no function of it, is nested deeper than the grammar allows.
+/// No tree of a file that is spelled and resolved, and no function of it, is nested deeper than the
+/// grammar allows.
 pub fn trees_are_nested_at_most_128_deep()
-    ensures { (dialect : Dialect) (text : List ℕ) (tree : BareFile) (file : File) → Spelled text tree → resolved dialect tree.body ≡ Ok file → NestedWithin 128 file }
+    ensures { (dialect : Dialect) (text : List ℕ) (tree : BareFile) (file : File)
+        → Spelled text tree
+        → resolved dialect tree.body ≡ Ok file
+        → NestedWithin 128 file }
 {}
 
-/// A file that is spelled and resolved has no form that the grammar refuses: arguments and parameters stand in order, no name of them stands twice, and each statement stands where it may.
+/// A file that is spelled and resolved has no form that the grammar refuses: arguments and
+/// parameters stand in order, no name of them stands twice, and each statement stands where it may.
 pub fn no_refused_form_is_there()
-    ensures { (dialect : Dialect) (text : List ℕ) (tree : BareFile) (file : File) → Spelled text tree → resolved dialect tree.body ≡ Ok file → HasNoRefusedForm file }
+    ensures { (dialect : Dialect) (text : List ℕ) (tree : BareFile) (file : File)
+        → Spelled text tree
+        → resolved dialect tree.body ≡ Ok file
+        → HasNoRefusedForm file }
 {}
 
 /// The file of a text's tree is well formed.
 pub fn parsed_files_are_well_formed()
-    ensures { (dialect : Dialect) (text : List ℕ) (tree : BareFile) (file : File) → Spelled text tree → resolved dialect tree.body ≡ Ok file → WellFormed file }
+    ensures { (dialect : Dialect) (text : List ℕ) (tree : BareFile) (file : File)
+        → Spelled text tree
+        → resolved dialect tree.body ≡ Ok file
+        → WellFormed file }
 {}

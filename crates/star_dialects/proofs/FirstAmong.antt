@@ -5,7 +5,8 @@ use Rattle.bz_text.proofs.ListWalks.{drop-next}
 use Rattle.star_dialects.specs.Forms.{first_among}
 use Rattle.star_dialects.specs.declared.forms.Refused.{Refused}
 
-pub first_among-drop : {A B : Type 0} (of : B → Option Refused) (part : A → B) (xs : List A) (i : ℕ) (x : A)
+pub first_among-drop : {A B : Type 0} (of : B → Option Refused) (part : A → B) (xs : List A) (i : ℕ)
+    (x : A)
     → i < length xs
     → x ≡ get_or xs i x
     → first_among of (map part (drop i xs))

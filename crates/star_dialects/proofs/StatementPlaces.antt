@@ -7,7 +7,8 @@ use Rattle.star_grammar.specs.declared.bare_statements.BareStmtKind as kind
 use Rattle.star_grammar.specs.declared.bare_statements.BareStmtKind.{out-BareStmtKind, the_lemmas}
 use Rattle.star_dialects.specs.ExtensionFiles.{binding, kind_places}
 
-pub kind_places-Def : (line : ℕ) (name : BareName) (params : List BareParam) (body : List BareStmt) → kind_places line (out-BareStmtKind (kind.Def name params body)) ≡ binding name.name line ∷ []
+pub kind_places-Def : (line : ℕ) (name : BareName) (params : List BareParam) (body : List BareStmt)
+    → kind_places line (out-BareStmtKind (kind.Def name params body)) ≡ binding name.name line ∷ []
 kind_places-Def line name params body = search (rules, the_lemmas)
 
 pub ruleset statement_kinds = (kind_places-Def)

@@ -1,4 +1,5 @@
--- What an extension's file may not have at its top level: Bazel, ".bzl files"; the Starlark specification, "Name binding and variables".
+-- What an extension's file may not have at its top level: Bazel, ".bzl files"; the Starlark
+-- specification, "Name binding and variables".
 use Rattle.std.specs.Prelude.{ℕ, List, [], ◌∷◌, Option, Some, None, Result, Ok, Err, map}
 use Rattle.std.specs.List.{flat_map}
 use Rattle.std.specs.Result.{result_err}
@@ -14,7 +15,8 @@ use Rattle.star_dialects.specs.declared.forms.Form.TheVariants as form
 use Rattle.star_dialects.specs.declared.forms.Refused.{Refused}
 use Rattle.star_dialects.specs.Forms.{StmtKindLayer, form_on}
 
--- a place of the top level: a name that is bound on a line, or a form that is refused wherever it stands
+-- a place of the top level: a name that is bound on a line, or a form that is refused wherever it
+-- stands
 pub data Place : Type 0 where
   binds : BareName → Place
   stands : Refused → Place
@@ -37,7 +39,8 @@ target_step (BareExpr-F.List targets) = all_places targets
 target_step _ = []
 
 abbrev pub target_places : BareExpr → List Place
-target_places = fold-BareExpr ℕ ℕ (List Place) ℕ ℕ (λ arg. 0) (λ clause. 0) target_step (λ param. 0) (λ pair. 0)
+target_places = fold-BareExpr ℕ ℕ (List Place) ℕ ℕ (λ arg. 0) (λ clause. 0) target_step (λ param. 0)
+    (λ pair. 0)
 
 abbrev pub load_place : BareLoadName → Place
 load_place loaded = binding loaded.name.local loaded.line
@@ -70,14 +73,17 @@ abbrev pub names_with : Names → Place → Result Names Refused
 names_with names (binds name) = names_with_name (slot_of names name.name) names name
 names_with names (stands refused) = Err refused
 
-abbrev pub and_then_names : Result Names Refused → (Names → Result Names Refused) → Result Names Refused
+abbrev pub and_then_names : Result Names Refused
+    → (Names → Result Names Refused)
+    → Result Names Refused
 and_then_names (Err refused) next = Err refused
 and_then_names (Ok names) next = next names
 
 -- the names after some places, or what is refused first
 abbrev pub names_after : Names → List Place → Result Names Refused
 names_after names [] = Ok names
-names_after names (at ∷ places) = and_then_names (names_with names at) (λ more. names_after more places)
+names_after names (at ∷ places) = and_then_names (names_with names at)
+    (λ more. names_after more places)
 
 -- the first of a file that is refused, in the order of its text
 abbrev pub first_in_bzl : List BareStmt → Option Refused

@@ -1,4 +1,5 @@
--- The forms of Starlark that a dialect may refuse, as they are told: Bazel, ".bzl files" and "MODULE.bazel files".
+-- The forms of Starlark that a dialect may refuse, as they are told: Bazel, ".bzl files" and
+-- "MODULE.bazel files".
 use Rattle.std.specs.Prelude.{ℕ, List, [], ◌∷◌, Option, None, codes}
 use Rattle.std.specs.Option.{option_or}
 use Rattle.star_grammar.specs.declared.bare_statements.BareStmt.{BareStmt}

@@ -1,7 +1,9 @@
--- What a MODULE.bazel file may not have: Bazel, "MODULE.bazel files". A form is refused where it begins, so that nothing inside it matters.
+-- What a MODULE.bazel file may not have: Bazel, "MODULE.bazel files". A form is refused where it
+-- begins, so that nothing inside it matters.
 use Rattle.std.specs.Prelude.{ℕ, Bool, true, false, if◌then◌else◌, List, Option, Some, None}
 use Rattle.std.specs.Option.{option_or}
-use Rattle.star_grammar.specs.declared.bare_expressions.BareArg.TheOpen.{BareArg-F, BareClause-F, BareExpr-F, BarePair-F}
+use Rattle.star_grammar.specs.declared.bare_expressions.BareArg.TheOpen.{BareArg-F, BareClause-F}
+use Rattle.star_grammar.specs.declared.bare_expressions.BareArg.TheOpen.{BareExpr-F, BarePair-F}
 use Rattle.star_grammar.specs.declared.bare_expressions.BareArg.{BareArg, fold-BareArg}
 use Rattle.star_grammar.specs.declared.bare_expressions.BareClause.{BareClause, fold-BareClause}
 use Rattle.star_grammar.specs.declared.bare_expressions.BareExpr.{BareExpr, fold-BareExpr}
@@ -13,7 +15,8 @@ use Rattle.star_dialects.specs.declared.forms.Form.TheVariants as form
 use Rattle.star_dialects.specs.declared.forms.Refused.{Refused}
 use Rattle.star_dialects.specs.Forms.{StmtKindLayer, first_among, form_on}
 
--- an expression: whether it is a dictionary display without a comprehension, and the first form in it that is refused
+-- an expression: whether it is a dictionary display without a comprehension, and the first form in
+-- it that is refused
 pub record Seen : Type 0 where
   pub is_display : Bool
   pub first : Option Refused
@@ -36,18 +39,21 @@ first_in_bound (Some bound) = bound.first
 -- ---- one level, with what stands inside already seen, in the order of the text
 
 -- `*` is refused, and `**` unless its value is a dictionary display
-abbrev pub arg_step : BareArg-F (Option Refused) (Option Refused) Seen ℕ (Option Refused) → Option Refused
+abbrev pub arg_step : BareArg-F (Option Refused) (Option Refused) Seen ℕ (Option Refused)
+    → Option Refused
 arg_step (BareArg-F.Positional value) = value.first
 arg_step (BareArg-F.Named name value) = value.first
 arg_step (BareArg-F.Star value line) = Some (form_on line form.Star)
 arg_step (BareArg-F.DoubleStar value line) =
     if value.is_display then value.first else Some (form_on line form.StarStar)
 
-abbrev pub clause_step : BareClause-F (Option Refused) (Option Refused) Seen ℕ (Option Refused) → Option Refused
+abbrev pub clause_step : BareClause-F (Option Refused) (Option Refused) Seen ℕ (Option Refused)
+    → Option Refused
 clause_step (BareClause-F.For to over) = option_or to.first over.first
 clause_step (BareClause-F.If test) = test.first
 
-abbrev pub pair_step : BarePair-F (Option Refused) (Option Refused) Seen ℕ (Option Refused) → Option Refused
+abbrev pub pair_step : BarePair-F (Option Refused) (Option Refused) Seen ℕ (Option Refused)
+    → Option Refused
 pair_step pair = option_or pair.key.first pair.value.first
 
 -- round brackets change nothing
@@ -71,20 +77,25 @@ expr_step (BareExpr-F.Attr container name) = plain container.first
 expr_step (BareExpr-F.Index container at) = plain (option_or container.first at.first)
 expr_step (BareExpr-F.Slice container begin end step) =
     plain
-    (option_or container.first (option_or (first_in_bound begin) (option_or (first_in_bound end) (first_in_bound step))))
+    (option_or container.first
+    (option_or (first_in_bound begin) (option_or (first_in_bound end) (first_in_bound step))))
 expr_step (BareExpr-F.Call function args) = plain (option_or function.first (first_in_parts args))
 
 abbrev pub seen : BareExpr → Seen
-seen = fold-BareExpr (Option Refused) (Option Refused) Seen ℕ (Option Refused) arg_step clause_step expr_step (λ param. 0) pair_step
+seen = fold-BareExpr (Option Refused) (Option Refused) Seen ℕ
+    (Option Refused) arg_step clause_step expr_step (λ param. 0) pair_step
 
 abbrev pub first_in_arg : BareArg → Option Refused
-first_in_arg = fold-BareArg (Option Refused) (Option Refused) Seen ℕ (Option Refused) arg_step clause_step expr_step (λ param. 0) pair_step
+first_in_arg = fold-BareArg (Option Refused) (Option Refused) Seen ℕ
+    (Option Refused) arg_step clause_step expr_step (λ param. 0) pair_step
 
 abbrev pub first_in_clause : BareClause → Option Refused
-first_in_clause = fold-BareClause (Option Refused) (Option Refused) Seen ℕ (Option Refused) arg_step clause_step expr_step (λ param. 0) pair_step
+first_in_clause = fold-BareClause (Option Refused) (Option Refused) Seen ℕ
+    (Option Refused) arg_step clause_step expr_step (λ param. 0) pair_step
 
 abbrev pub first_in_pair : BarePair → Option Refused
-first_in_pair = fold-BarePair (Option Refused) (Option Refused) Seen ℕ (Option Refused) arg_step clause_step expr_step (λ param. 0) pair_step
+first_in_pair = fold-BarePair (Option Refused) (Option Refused) Seen ℕ
+    (Option Refused) arg_step clause_step expr_step (λ param. 0) pair_step
 
 -- ---- statements
 
@@ -103,7 +114,8 @@ first_in_kind line BareStmtKind-F.Continue = None
 first_in_kind line BareStmtKind-F.Pass = None
 first_in_kind line (BareStmtKind-F.Load file names) = Some (form_on line form.Load)
 first_in_kind line (BareStmtKind-F.Assign to value) = option_or (seen to).first (seen value).first
-first_in_kind line (BareStmtKind-F.Augment place op value) = option_or (seen place).first (seen value).first
+first_in_kind line (BareStmtKind-F.Augment place op value) = option_or (seen place).first
+    (seen value).first
 first_in_kind line (BareStmtKind-F.Value value) = (seen value).first
 
 abbrev pub first_in_statement : BareStmt → Option Refused

@@ -1,4 +1,6 @@
-//! Extensions' files: no `if`, no `for` and no second binding of a name at top level. The names bound so far go from place to place, in the order of the text; a place that is refused ends the walk.
+//! Extensions' files: no `if`, no `for` and no second binding of a name at top level. The names
+//! bound so far go from place to place, in the order of the text; a place that is refused ends the
+//! walk.
 ghost use Rattle.std.specs.Prelude.{◌≡◌, IfOk, Err, [], ◌∷◌, map};
 ghost use Rattle.bz_text.specs.Answers.{Gives};
 ghost use Rattle.star_dialects.specs.ExtensionFiles as spec;

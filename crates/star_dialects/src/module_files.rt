@@ -1,4 +1,5 @@
-//! MODULE.bazel files: no `load`, `def`, `if`, `for`, `lambda`, `*` or `**`, but for a `**` whose value is a dictionary display. Each function gives the first form in its part that is refused.
+//! MODULE.bazel files: no `load`, `def`, `if`, `for`, `lambda`, `*` or `**`, but for a `**` whose
+//! value is a dictionary display. Each function gives the first form in its part that is refused.
 ghost use Rattle.std.specs.Prelude.{◌≡◌, Some, map};
 ghost use Rattle.std.specs.Option.{option_map};
 ghost use Rattle.star_dialects.specs.Forms.{form_on};

@@ -1,5 +1,6 @@
 -- Tests of items, one by one.
-use Rattle.std.proofs.Common.{◌≡◌, ℕ, ◌+◌, ◌<◌, Bool, ◌&&◌, List, [], ◌∷◌, length, get_or, drop, map, refl, ap, arith}
+use Rattle.std.proofs.Common.{◌≡◌, ℕ, ◌+◌, ◌<◌, Bool, ◌&&◌, List, [], ◌∷◌, length, get_or, drop}
+use Rattle.std.proofs.Common.{map, refl, ap, arith}
 use Rattle.bz_text.proofs.ListWalks.{drop-next}
 use Rattle.star_trees.specs.Lists.{all_of, some_and_all}
 

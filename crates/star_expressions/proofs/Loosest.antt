@@ -5,6 +5,9 @@ use Rattle.star_grammar.specs.Expressions.{Tree}
 use Rattle.star_grammar.specs.ExpressionReading.{arithmetic, chain}
 use Rattle.star_grammar.specs.Readers.{Reader}
 
-pub arithmetic-loosest : (nested : Level → Reader Tree) (levels : ℕ) → 0 < levels → arithmetic nested levels ≡ chain nested (levels - 1) (arithmetic nested (levels - 1))
+pub arithmetic-loosest : (nested : Level → Reader Tree) (levels : ℕ)
+    → 0 < levels
+    → arithmetic nested levels ≡ chain nested (levels - 1) (arithmetic nested (levels - 1))
 unfolding arithmetic
-arithmetic-loosest nested levels some = let e : levels ≡ suc (levels - 1) = omega arith in ap (λ n. arithmetic nested n) e
+arithmetic-loosest nested levels some = let e : levels
+    ≡ suc (levels - 1) = omega arith in ap (λ n. arithmetic nested n) e

@@ -1,5 +1,6 @@
 -- A set of names takes a name.
-use Rattle.std.proofs.Common.{◌≡◌, ℕ, Bool, true, false, cond, not, ◌&&◌, ◌||◌, List, [], ◌∷◌, Option, Some, None, refl, ap, sym, ◌∙◌, bytes_eq}
+use Rattle.std.proofs.Common.{◌≡◌, ℕ, Bool, true, false, cond, not, ◌&&◌, ◌||◌, List, [], ◌∷◌}
+use Rattle.std.proofs.Common.{Option, Some, None, refl, ap, sym, ◌∙◌, bytes_eq}
 use Rattle.std.specs.List.{list_any}
 use Rattle.std.specs.BTreeSet.{BTreeSet, contains_text}
 use Rattle.std.specs.Prelude.{String}
@@ -11,19 +12,26 @@ cond-or : (b c : Bool) → cond b true c ≡ (b || c)
 cond-or true c = refl
 cond-or false c = refl
 
-new-from : (name : List ℕ) (before rest : List (List ℕ)) (found : Bool) → list_any (λ other. bytes_eq other name) before ≡ found → all_new before (name ∷ rest) ≡ (not found && all_new (name ∷ before) rest)
+new-from : (name : List ℕ) (before rest : List (List ℕ)) (found : Bool)
+    → list_any (λ other. bytes_eq other name) before ≡ found
+    → all_new before (name ∷ rest) ≡ (not found && all_new (name ∷ before) rest)
 new-from name before rest found is = ap (λ b. not b && all_new (name ∷ before) rest) is
 
 pub Adds-some : (name : List ℕ) (old new : BTreeSet (String Global)) (fresh : Bool)
-    → fresh ≡ not (contains_text old name) → ((q : List ℕ) → contains_text new q ≡ cond (bytes_eq name q) true (contains_text old q)) → Adds (Some name) old new fresh
+    → fresh ≡ not (contains_text old name)
+    → ((q : List ℕ) → contains_text new q ≡ cond (bytes_eq name q) true (contains_text old q))
+    → Adds (Some name) old new fresh
 Adds-some name old new fresh is updates = record {
   added = λ yes before rest holds. (
     name ∷ before,
     (
-        λ q. updates q ∙ (cond-or (bytes_eq name q) (contains_text old q) ∙ ap (λ b. bytes_eq name q || b) (holds q))),
-    new-from name before rest false (sym (holds name) ∙ absent (contains_text old name) (sym is ∙ yes)),
+        λ q. updates q ∙ (cond-or (bytes_eq name q) (contains_text old q) ∙ ap (λ b. bytes_eq name q
+        || b) (holds q))),
+    new-from name before rest false
+        (sym (holds name) ∙ absent (contains_text old name) (sym is ∙ yes)),
   );
-  known = λ none before rest holds. new-from name before rest true (sym (holds name) ∙ present (contains_text old name) (sym is ∙ none));
+  known = λ none before rest holds. new-from name before rest true
+      (sym (holds name) ∙ present (contains_text old name) (sym is ∙ none));
 }
   where
     absent : (b : Bool) → not b ≡ true → b ≡ false
@@ -47,13 +55,23 @@ Adds-none set = record {
 abbrev pub Held : BTreeSet (String Global) → Bool → List (List ℕ) → Type 0
 Held set whole names = (before : List (List ℕ)) × Holds set before × (whole ≡ all_new before names)
 
-pub Held-added : (name : Option (List ℕ)) (old new : BTreeSet (String Global)) (fresh whole : Bool) (names rest : List (List ℕ))
-    → Adds name old new fresh → fresh ≡ true → names ≡ with_name name rest → Held old whole names → Held new whole rest
+pub Held-added : (name : Option (List ℕ)) (old new : BTreeSet (String Global)) (fresh whole : Bool)
+    (names rest : List (List ℕ))
+    → Adds name old new fresh
+    → fresh ≡ true
+    → names ≡ with_name name rest
+    → Held old whole names
+    → Held new whole rest
 Held-added name old new fresh whole names rest adds fresh_is is held =
     let next = adds.added fresh_is held.0 rest held.1 in
     (next.0, next.1, held.2 ∙ (ap (all_new held.0) is ∙ next.2))
 
-pub Held-known : (name : Option (List ℕ)) (old new : BTreeSet (String Global)) (fresh whole : Bool) (names rest : List (List ℕ))
-    → Adds name old new fresh → fresh ≡ false → names ≡ with_name name rest → Held old whole names → whole ≡ false
+pub Held-known : (name : Option (List ℕ)) (old new : BTreeSet (String Global)) (fresh whole : Bool)
+    (names rest : List (List ℕ))
+    → Adds name old new fresh
+    → fresh ≡ false
+    → names ≡ with_name name rest
+    → Held old whole names
+    → whole ≡ false
 Held-known name old new fresh whole names rest adds known_is is held =
     held.2 ∙ (ap (all_new held.0) is ∙ adds.known known_is held.0 rest held.1)

@@ -20,5 +20,9 @@ IsRead wanted rest (Ok value) = wanted ≡ Some (value, rest)
 IsRead wanted rest (Err _) = wanted ≡ None
 
 -- the same of a call that may run out of memory
-abbrev pub Reads : {A : Type 0} → Option (A × List Symbol) → Result A (Miss NoTree) → List Symbol → Type 0
+abbrev pub Reads : {A : Type 0}
+    → Option (A × List Symbol)
+    → Result A (Miss NoTree)
+    → List Symbol
+    → Type 0
 Reads wanted result rest = UnlessOutOfMemory (IsRead wanted rest) result

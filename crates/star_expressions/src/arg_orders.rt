@@ -115,7 +115,8 @@ fn param_stage(last: usize, param: &BareParam) -> Option<usize>
 }
 
 fn required_stage(last: usize) -> Option<usize>
-    ensures { result ≡ (if last == 0 then Some 0 else (if nat_le 2 last && nat_le last 3 then Some 3 else None)) }
+    ensures { result ≡ (if last == 0 then Some 0 else (if nat_le 2 last && nat_le last 3 then Some 3 else
+        None)) }
 {
     if last == 0 {
         Some(0)

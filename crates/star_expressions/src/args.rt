@@ -18,7 +18,8 @@ impl<F: Fn(Global, &mut Cursor<'_>, usize, Level) -> May<(BareExpr, usize), NoTr
     #[tactic(auto, unfolding(star_grammar::specs::ExpressionReading::named_arg))]
     fn named_arg(&self, symbols: &mut Cursor<'_>) -> May<(BareArg, usize), NoTree>
         requires { Nests self.now.nesting (F.pre self.now.nested) (F.post self.now.nested) }
-        ensures { Reads (spec.named_arg (reads self.now.nesting level.Test) symbols.old.rest.now) result symbols.new.rest.now }
+        ensures { Reads (spec.named_arg (reads self.now.nesting level.Test) symbols.old.rest.now) result
+            symbols.new.rest.now }
     {
         let name = symbols.name(self.alloc)?;
         symbols.expect(Sign::Assign)?;
@@ -30,7 +31,8 @@ impl<F: Fn(Global, &mut Cursor<'_>, usize, Level) -> May<(BareExpr, usize), NoTr
     #[tactic(auto, unfolding(star_grammar::specs::ExpressionReading::star_arg))]
     fn star_arg(&self, symbols: &mut Cursor<'_>, line: u64) -> May<(BareArg, usize), NoTree>
         requires { Nests self.now.nesting (F.pre self.now.nested) (F.post self.now.nested) }
-        ensures { Reads (spec.star_arg (reads self.now.nesting level.Test) line symbols.old.rest.now) result symbols.new.rest.now }
+        ensures { Reads (spec.star_arg (reads self.now.nesting level.Test) line symbols.old.rest.now)
+            result symbols.new.rest.now }
     {
         let (value, depth) = self.nested(symbols, Level::Test)?;
         Ok((BareArg::Star { value, line }, depth))
@@ -40,7 +42,8 @@ impl<F: Fn(Global, &mut Cursor<'_>, usize, Level) -> May<(BareExpr, usize), NoTr
     #[tactic(auto, unfolding(star_grammar::specs::ExpressionReading::double_star_arg))]
     fn double_star_arg(&self, symbols: &mut Cursor<'_>, line: u64) -> May<(BareArg, usize), NoTree>
         requires { Nests self.now.nesting (F.pre self.now.nested) (F.post self.now.nested) }
-        ensures { Reads (spec.double_star_arg (reads self.now.nesting level.Test) line symbols.old.rest.now) result symbols.new.rest.now }
+        ensures { Reads (spec.double_star_arg (reads self.now.nesting level.Test) line
+            symbols.old.rest.now) result symbols.new.rest.now }
     {
         let (value, depth) = self.nested(symbols, Level::Test)?;
         Ok((BareArg::DoubleStar { value, line }, depth))
@@ -49,7 +52,8 @@ impl<F: Fn(Global, &mut Cursor<'_>, usize, Level) -> May<(BareExpr, usize), NoTr
     #[tactic(auto, unfolding(star_grammar::specs::ExpressionReading::positional_arg))]
     fn positional_arg(&self, symbols: &mut Cursor<'_>) -> May<(BareArg, usize), NoTree>
         requires { Nests self.now.nesting (F.pre self.now.nested) (F.post self.now.nested) }
-        ensures { Reads (spec.positional_arg (reads self.now.nesting level.Test) symbols.old.rest.now) result symbols.new.rest.now }
+        ensures { Reads (spec.positional_arg (reads self.now.nesting level.Test) symbols.old.rest.now)
+            result symbols.new.rest.now }
     {
         let (value, depth) = self.nested(symbols, Level::Test)?;
         Ok((BareArg::Positional(value), depth))
@@ -58,7 +62,8 @@ impl<F: Fn(Global, &mut Cursor<'_>, usize, Level) -> May<(BareExpr, usize), NoTr
     #[tactic(auto, unfolding(star_grammar::specs::ExpressionReading::arg))]
     fn arg(&self, symbols: &mut Cursor<'_>) -> May<(BareArg, usize), NoTree>
         requires { Nests self.now.nesting (F.pre self.now.nested) (F.post self.now.nested) }
-        ensures { Reads (spec.arg (reads self.now.nesting level.Test) symbols.old.rest.now) result symbols.new.rest.now }
+        ensures { Reads (spec.arg (reads self.now.nesting level.Test) symbols.old.rest.now) result
+            symbols.new.rest.now }
     {
         let line = symbols.line();
         if symbols.eat(Sign::Star) {
@@ -80,7 +85,8 @@ impl<F: Fn(Global, &mut Cursor<'_>, usize, Level) -> May<(BareExpr, usize), NoTr
         first: (BareArg, usize),
     ) -> May<(Items<BareArg>, usize), NoTree>
         requires { Nests self.now.nesting (F.pre self.now.nested) (F.post self.now.nested) }
-        ensures { Reads (spec.more_args (reads self.now.nesting level.Test) (one first) symbols.old.rest.now) result symbols.new.rest.now }
+        ensures { Reads (spec.more_args (reads self.now.nesting level.Test) (one first)
+            symbols.old.rest.now) result symbols.new.rest.now }
     {
         let (arg, mut depth) = first;
         let mut args = only(self.alloc, arg)?;
@@ -103,7 +109,8 @@ impl<F: Fn(Global, &mut Cursor<'_>, usize, Level) -> May<(BareExpr, usize), NoTr
         symbols: &mut Cursor<'_>,
     ) -> May<(Items<BareArg>, usize), NoTree>
         requires { Nests self.now.nesting (F.pre self.now.nested) (F.post self.now.nested) }
-        ensures { Reads (spec.listed_args (reads self.now.nesting level.Test) symbols.old.rest.now) result symbols.new.rest.now }
+        ensures { Reads (spec.listed_args (reads self.now.nesting level.Test) symbols.old.rest.now) result
+            symbols.new.rest.now }
     {
         if symbols.eat(Sign::RightRound) {
             return Ok((Items::new(self.alloc), 0));

@@ -26,7 +26,8 @@ impl<F: Fn(Global, &mut Cursor<'_>, usize, Level) -> May<(BareExpr, usize), NoTr
     #[tactic(auto, unfolding(star_grammar::specs::ExpressionReading::for_clause))]
     fn for_clause(&self, symbols: &mut Cursor<'_>) -> May<(BareClause, usize), NoTree>
         requires { Nests self.now.nesting (F.pre self.now.nested) (F.post self.now.nested) }
-        ensures { Reads (spec.for_clause (reads self.now.nesting) symbols.old.rest.now) result symbols.new.rest.now }
+        ensures { Reads (spec.for_clause (reads self.now.nesting) symbols.old.rest.now) result
+            symbols.new.rest.now }
     {
         symbols.expect(Sign::For)?;
         let to = Held::new(self.vars(symbols)?);
@@ -40,7 +41,8 @@ impl<F: Fn(Global, &mut Cursor<'_>, usize, Level) -> May<(BareExpr, usize), NoTr
     #[tactic(auto, unfolding(star_grammar::specs::ExpressionReading::if_clause))]
     fn if_clause(&self, symbols: &mut Cursor<'_>) -> May<(BareClause, usize), NoTree>
         requires { Nests self.now.nesting (F.pre self.now.nested) (F.post self.now.nested) }
-        ensures { Reads (spec.if_clause (reads self.now.nesting) symbols.old.rest.now) result symbols.new.rest.now }
+        ensures { Reads (spec.if_clause (reads self.now.nesting) symbols.old.rest.now) result
+            symbols.new.rest.now }
     {
         symbols.expect(Sign::If)?;
         let (test, depth) = self.nested(symbols, Level::Disjunction)?;
@@ -50,7 +52,8 @@ impl<F: Fn(Global, &mut Cursor<'_>, usize, Level) -> May<(BareExpr, usize), NoTr
     #[tactic(auto, unfolding(star_grammar::specs::ExpressionReading::any_clause))]
     fn any_clause(&self, symbols: &mut Cursor<'_>) -> May<(BareClause, usize), NoTree>
         requires { Nests self.now.nesting (F.pre self.now.nested) (F.post self.now.nested) }
-        ensures { Reads (spec.any_clause (reads self.now.nesting) symbols.old.rest.now) result symbols.new.rest.now }
+        ensures { Reads (spec.any_clause (reads self.now.nesting) symbols.old.rest.now) result
+            symbols.new.rest.now }
     {
         if symbols.sees(Sign::For) {
             self.for_clause(symbols)
@@ -66,7 +69,8 @@ impl<F: Fn(Global, &mut Cursor<'_>, usize, Level) -> May<(BareExpr, usize), NoTr
         first: (BareClause, usize),
     ) -> May<(Items<BareClause>, usize), NoTree>
         requires { Nests self.now.nesting (F.pre self.now.nested) (F.post self.now.nested) }
-        ensures { Reads (turns (spec.begins_clause (reads self.now.nesting)) (adds (spec.any_clause (reads self.now.nesting))) (one first) symbols.old.rest.now) result symbols.new.rest.now }
+        ensures { Reads (turns (spec.begins_clause (reads self.now.nesting)) (adds (spec.any_clause (reads
+            self.now.nesting))) (one first) symbols.old.rest.now) result symbols.new.rest.now }
     {
         let (clause, mut depth) = first;
         let mut clauses = only(self.alloc, clause)?;
@@ -84,7 +88,8 @@ impl<F: Fn(Global, &mut Cursor<'_>, usize, Level) -> May<(BareExpr, usize), NoTr
     #[tactic(auto, unfolding(star_grammar::specs::ExpressionReading::comp))]
     pub(crate) fn comp(&self, symbols: &mut Cursor<'_>) -> May<(Items<BareClause>, usize), NoTree>
         requires { Nests self.now.nesting (F.pre self.now.nested) (F.post self.now.nested) }
-        ensures { Reads (spec.comp (reads self.now.nesting) symbols.old.rest.now) result symbols.new.rest.now }
+        ensures { Reads (spec.comp (reads self.now.nesting) symbols.old.rest.now) result
+            symbols.new.rest.now }
     {
         let first = self.for_clause(symbols)?;
         self.more_clauses(symbols, first)

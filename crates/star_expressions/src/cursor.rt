@@ -131,7 +131,8 @@ impl<'a> Cursor<'a> {
         self.sees_word() && self.sees_behind(Sign::Assign)
     }
 
-    /// Whether the sign between items comes next, and not as the last before the sign that closes them.
+    /// Whether the sign between items comes next, and not as the last before the sign that closes
+    /// them.
     pub fn goes_on(&self, between: Sign, close: Option<Sign>) -> bool
         ensures { result ≡ spec.goes_on between close self.now.rest.now }
     {

@@ -38,7 +38,8 @@ pub fn test_list(
     symbols: &mut Cursor<'_>,
     nesting: usize,
 ) -> May<(BareExpr, usize), NoTree>
-    ensures { Reads (spec.expression (reads nesting level.Test) symbols.old.rest.now) result symbols.new.rest.now }
+    ensures { Reads (spec.expression (reads nesting level.Test) symbols.old.rest.now) result
+        symbols.new.rest.now }
 {
     Grammar {
         alloc,
@@ -54,7 +55,8 @@ pub fn target_list(
     symbols: &mut Cursor<'_>,
     nesting: usize,
 ) -> May<(BareExpr, usize), NoTree>
-    ensures { Reads (spec.vars (reads nesting level.Primary) symbols.old.rest.now) result symbols.new.rest.now }
+    ensures { Reads (spec.vars (reads nesting level.Primary) symbols.old.rest.now) result
+        symbols.new.rest.now }
 {
     Grammar {
         alloc,
@@ -70,7 +72,8 @@ pub fn listed_params(
     symbols: &mut Cursor<'_>,
     nesting: usize,
 ) -> May<(Items<BareParam>, usize), NoTree>
-    ensures { Reads (spec.listed_params (reads nesting level.Test) symbols.old.rest.now) result symbols.new.rest.now }
+    ensures { Reads (spec.listed_params (reads nesting level.Test) symbols.old.rest.now) result
+        symbols.new.rest.now }
 {
     Grammar {
         alloc,

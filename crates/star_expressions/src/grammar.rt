@@ -1,4 +1,5 @@
-//! The rules that hold expressions take the parser of those as a value, so that each is proved by itself.
+//! The rules that hold expressions take the parser of those as a value, so that each is proved by
+//! itself.
 ghost use Rattle.std.specs.Prelude.{◌≡◌, [], ◌∷◌, IfOk, Some, None, if◌then◌else◌};
 ghost use Rattle.star_grammar.specs.ExpressionReading.{reads};
 ghost use Rattle.star_grammar.specs.Rules.{deep};

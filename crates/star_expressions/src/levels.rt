@@ -70,7 +70,8 @@ impl<F: Fn(Global, &mut Cursor<'_>, usize, Level) -> May<(BareExpr, usize), NoTr
         level: Level,
     ) -> May<(BareExpr, usize), NoTree>
         requires { Nests self.now.nesting (F.pre self.now.nested) (F.post self.now.nested) }
-        ensures { Reads (spec.prefixed (reads self.now.nesting) op (reads self.now.nesting level) symbols.old.rest.now) result symbols.new.rest.now }
+        ensures { Reads (spec.prefixed (reads self.now.nesting) op (reads self.now.nesting level)
+            symbols.old.rest.now) result symbols.new.rest.now }
     {
         symbols.skip();
         let (of, depth) = self.nested(symbols, level)?;
@@ -82,7 +83,8 @@ impl<F: Fn(Global, &mut Cursor<'_>, usize, Level) -> May<(BareExpr, usize), NoTr
     #[tactic(auto, unfolding(star_grammar::specs::ExpressionReading::unary))]
     pub(crate) fn unary(&self, symbols: &mut Cursor<'_>) -> May<(BareExpr, usize), NoTree>
         requires { Nests self.now.nesting (F.pre self.now.nested) (F.post self.now.nested) }
-        ensures { Reads (spec.unary (reads self.now.nesting) symbols.old.rest.now) result symbols.new.rest.now }
+        ensures { Reads (spec.unary (reads self.now.nesting) symbols.old.rest.now) result
+            symbols.new.rest.now }
     {
         match symbols.prefix() {
             Some(op) => self.prefixed(symbols, op, Level::Unary),
@@ -94,7 +96,8 @@ impl<F: Fn(Global, &mut Cursor<'_>, usize, Level) -> May<(BareExpr, usize), NoTr
     #[tactic(auto, unfolding(star_grammar::specs::ExpressionReading::arithmetic, star_grammar::specs::Readers::rounds, star_grammar::specs::ExpressionReading::operated))]
     fn arithmetic(&self, symbols: &mut Cursor<'_>, levels: usize) -> May<(BareExpr, usize), NoTree>
         requires { Nests self.now.nesting (F.pre self.now.nested) (F.post self.now.nested) }
-        ensures { Reads (spec.arithmetic (reads self.now.nesting) levels symbols.old.rest.now) result symbols.new.rest.now }
+        ensures { Reads (spec.arithmetic (reads self.now.nesting) levels symbols.old.rest.now) result
+            symbols.new.rest.now }
     {
         if levels == 0 {
             return self.unary(symbols);
@@ -120,7 +123,8 @@ impl<F: Fn(Global, &mut Cursor<'_>, usize, Level) -> May<(BareExpr, usize), NoTr
         left: HeldTree,
     ) -> May<(BareExpr, usize), NoTree>
         requires { Nests self.now.nesting (F.pre self.now.nested) (F.post self.now.nested) }
-        ensures { Reads (spec.operated (reads self.now.nesting) (spec.arithmetic (reads self.now.nesting) 6) op left symbols.old.rest.now) result symbols.new.rest.now }
+        ensures { Reads (spec.operated (reads self.now.nesting) (spec.arithmetic (reads self.now.nesting)
+            6) op left symbols.old.rest.now) result symbols.new.rest.now }
     {
         symbols.skip();
         let right = self.arithmetic(symbols, ARITHMETIC)?;
@@ -131,7 +135,8 @@ impl<F: Fn(Global, &mut Cursor<'_>, usize, Level) -> May<(BareExpr, usize), NoTr
     #[tactic(auto, unfolding(star_grammar::specs::ExpressionReading::outside))]
     fn outside(&self, symbols: &mut Cursor<'_>, left: HeldTree) -> May<(BareExpr, usize), NoTree>
         requires { Nests self.now.nesting (F.pre self.now.nested) (F.post self.now.nested) }
-        ensures { Reads (spec.outside (reads self.now.nesting) left symbols.old.rest.now) result symbols.new.rest.now }
+        ensures { Reads (spec.outside (reads self.now.nesting) left symbols.old.rest.now) result
+            symbols.new.rest.now }
     {
         symbols.skip();
         self.operated(symbols, BinOp::NotWithin, left)
@@ -139,7 +144,8 @@ impl<F: Fn(Global, &mut Cursor<'_>, usize, Level) -> May<(BareExpr, usize), NoTr
 
     fn compared(&self, symbols: &mut Cursor<'_>, left: HeldTree) -> May<(BareExpr, usize), NoTree>
         requires { Nests self.now.nesting (F.pre self.now.nested) (F.post self.now.nested) }
-        ensures { Reads (spec.compared_by (reads self.now.nesting) left (front_of operators.comparison symbols.old.rest.now) symbols.old.rest.now) result symbols.new.rest.now }
+        ensures { Reads (spec.compared_by (reads self.now.nesting) left (front_of operators.comparison
+            symbols.old.rest.now) symbols.old.rest.now) result symbols.new.rest.now }
     {
         match symbols.comparison() {
             Some(op) => self.operated(symbols, op, left),
@@ -157,7 +163,8 @@ impl<F: Fn(Global, &mut Cursor<'_>, usize, Level) -> May<(BareExpr, usize), NoTr
     #[tactic(auto, unfolding(star_grammar::specs::ExpressionReading::comparison))]
     fn comparison(&self, symbols: &mut Cursor<'_>) -> May<(BareExpr, usize), NoTree>
         requires { Nests self.now.nesting (F.pre self.now.nested) (F.post self.now.nested) }
-        ensures { Reads (spec.comparison (reads self.now.nesting) symbols.old.rest.now) result symbols.new.rest.now }
+        ensures { Reads (spec.comparison (reads self.now.nesting) symbols.old.rest.now) result
+            symbols.new.rest.now }
     {
         let left = self.arithmetic(symbols, ARITHMETIC)?;
         self.compared(symbols, Held::new(left))
@@ -167,7 +174,8 @@ impl<F: Fn(Global, &mut Cursor<'_>, usize, Level) -> May<(BareExpr, usize), NoTr
     #[tactic(auto, unfolding(star_grammar::specs::ExpressionReading::negation))]
     pub(crate) fn negation(&self, symbols: &mut Cursor<'_>) -> May<(BareExpr, usize), NoTree>
         requires { Nests self.now.nesting (F.pre self.now.nested) (F.post self.now.nested) }
-        ensures { Reads (spec.negation (reads self.now.nesting) symbols.old.rest.now) result symbols.new.rest.now }
+        ensures { Reads (spec.negation (reads self.now.nesting) symbols.old.rest.now) result
+            symbols.new.rest.now }
     {
         match symbols.negation() {
             Some(op) => self.prefixed(symbols, op, Level::Negation),
@@ -178,7 +186,8 @@ impl<F: Fn(Global, &mut Cursor<'_>, usize, Level) -> May<(BareExpr, usize), NoTr
     #[tactic(auto, unfolding(star_grammar::specs::ExpressionReading::conjunction, star_grammar::specs::Readers::rounds, star_grammar::specs::ExpressionReading::operated))]
     fn conjunction(&self, symbols: &mut Cursor<'_>) -> May<(BareExpr, usize), NoTree>
         requires { Nests self.now.nesting (F.pre self.now.nested) (F.post self.now.nested) }
-        ensures { Reads (spec.conjunction (reads self.now.nesting) symbols.old.rest.now) result symbols.new.rest.now }
+        ensures { Reads (spec.conjunction (reads self.now.nesting) symbols.old.rest.now) result
+            symbols.new.rest.now }
     {
         let mut left = Held::new(self.negation(symbols)?);
         'turns: for turn in 0..symbols.left() {
@@ -195,7 +204,8 @@ impl<F: Fn(Global, &mut Cursor<'_>, usize, Level) -> May<(BareExpr, usize), NoTr
     #[tactic(auto, unfolding(star_grammar::specs::ExpressionReading::disjunction, star_grammar::specs::Readers::rounds, star_grammar::specs::ExpressionReading::operated))]
     pub(crate) fn disjunction(&self, symbols: &mut Cursor<'_>) -> May<(BareExpr, usize), NoTree>
         requires { Nests self.now.nesting (F.pre self.now.nested) (F.post self.now.nested) }
-        ensures { Reads (spec.disjunction (reads self.now.nesting) symbols.old.rest.now) result symbols.new.rest.now }
+        ensures { Reads (spec.disjunction (reads self.now.nesting) symbols.old.rest.now) result
+            symbols.new.rest.now }
     {
         let mut left = Held::new(self.conjunction(symbols)?);
         'turns: for turn in 0..symbols.left() {
@@ -217,7 +227,8 @@ impl<F: Fn(Global, &mut Cursor<'_>, usize, Level) -> May<(BareExpr, usize), NoTr
         chosen: HeldTree,
     ) -> May<(BareExpr, usize), NoTree>
         requires { Nests self.now.nesting (F.pre self.now.nested) (F.post self.now.nested) }
-        ensures { Reads (spec.conditional (reads self.now.nesting) chosen symbols.old.rest.now) result symbols.new.rest.now }
+        ensures { Reads (spec.conditional (reads self.now.nesting) chosen symbols.old.rest.now) result
+            symbols.new.rest.now }
     {
         let test = Held::new(self.disjunction(symbols)?);
         symbols.expect(Sign::Else)?;
@@ -229,7 +240,8 @@ impl<F: Fn(Global, &mut Cursor<'_>, usize, Level) -> May<(BareExpr, usize), NoTr
     #[tactic(auto, unfolding(star_grammar::specs::ExpressionReading::plain_test))]
     fn plain_test(&self, symbols: &mut Cursor<'_>) -> May<(BareExpr, usize), NoTree>
         requires { Nests self.now.nesting (F.pre self.now.nested) (F.post self.now.nested) }
-        ensures { Reads (spec.plain_test (reads self.now.nesting) symbols.old.rest.now) result symbols.new.rest.now }
+        ensures { Reads (spec.plain_test (reads self.now.nesting) symbols.old.rest.now) result
+            symbols.new.rest.now }
     {
         let first = self.disjunction(symbols)?;
         if symbols.eat(Sign::If) {
@@ -243,7 +255,8 @@ impl<F: Fn(Global, &mut Cursor<'_>, usize, Level) -> May<(BareExpr, usize), NoTr
     #[tactic(auto, unfolding(star_grammar::specs::ExpressionReading::lambda))]
     fn lambda(&self, symbols: &mut Cursor<'_>, line: u64) -> May<(BareExpr, usize), NoTree>
         requires { Nests self.now.nesting (F.pre self.now.nested) (F.post self.now.nested) }
-        ensures { Reads (spec.lambda (reads self.now.nesting) line symbols.old.rest.now) result symbols.new.rest.now }
+        ensures { Reads (spec.lambda (reads self.now.nesting) line symbols.old.rest.now) result
+            symbols.new.rest.now }
     {
         let (params, depth) = self.signature(symbols)?;
         checked(are_params(self.alloc, &params)?)?;
@@ -255,7 +268,8 @@ impl<F: Fn(Global, &mut Cursor<'_>, usize, Level) -> May<(BareExpr, usize), NoTr
     #[tactic(auto, unfolding(star_grammar::specs::ExpressionReading::any_test))]
     fn any_test(&self, symbols: &mut Cursor<'_>) -> May<(BareExpr, usize), NoTree>
         requires { Nests self.now.nesting (F.pre self.now.nested) (F.post self.now.nested) }
-        ensures { Reads (spec.any_test (reads self.now.nesting) symbols.old.rest.now) result symbols.new.rest.now }
+        ensures { Reads (spec.any_test (reads self.now.nesting) symbols.old.rest.now) result
+            symbols.new.rest.now }
     {
         let line = symbols.line();
         if symbols.eat(Sign::Lambda) {
@@ -272,7 +286,8 @@ impl<F: Fn(Global, &mut Cursor<'_>, usize, Level) -> May<(BareExpr, usize), NoTr
         level: Level,
     ) -> May<(BareExpr, usize), NoTree>
         requires { Nests self.now.nesting (F.pre self.now.nested) (F.post self.now.nested) }
-        ensures { Reads (spec.at (reads self.now.nesting) level symbols.old.rest.now) result symbols.new.rest.now }
+        ensures { Reads (spec.at (reads self.now.nesting) level symbols.old.rest.now) result
+            symbols.new.rest.now }
     {
         match level {
             Level::Primary => self.primary(symbols),

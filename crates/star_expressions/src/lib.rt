@@ -1,4 +1,5 @@
-//! The parser of Starlark's expressions: one method a production, in the grammar's order. What it reads is what the grammar's reader reads, and so what the symbols spell.
+//! The parser of Starlark's expressions: one method a production, in the grammar's order. What it
+//! reads is what the grammar's reader reads, and so what the symbols spell.
 #![tactic(auto)]
 
 mod arg_orders;

@@ -1,4 +1,5 @@
-//! Lists of expressions: `Expression = Test {',' Test} [',']`, and the variables that are bound, which are Targets.
+//! Lists of expressions: `Expression = Test {',' Test} [',']`, and the variables that are bound,
+//! which are Targets.
 ghost use Rattle.std.specs.Prelude.{◌≡◌, Some};
 ghost use Rattle.star_grammar.specs.ExpressionReading as spec;
 ghost use Rattle.star_grammar.specs.ExpressionReading.{reads};
@@ -56,7 +57,8 @@ impl<F: Fn(Global, &mut Cursor<'_>, usize, Level) -> May<(BareExpr, usize), NoTr
         first: (BareExpr, usize),
     ) -> May<(Items<BareExpr>, usize), NoTree>
         requires { Nests self.now.nesting (F.pre self.now.nested) (F.post self.now.nested) }
-        ensures { Reads (more s.Comma close (reads self.now.nesting level) (one first) symbols.old.rest.now) result symbols.new.rest.now }
+        ensures { Reads (more s.Comma close (reads self.now.nesting level) (one first)
+            symbols.old.rest.now) result symbols.new.rest.now }
     {
         let (item, mut depth) = first;
         let mut items = only(self.alloc, item)?;
@@ -80,7 +82,8 @@ impl<F: Fn(Global, &mut Cursor<'_>, usize, Level) -> May<(BareExpr, usize), NoTr
         first: (BareExpr, usize),
     ) -> May<(BareExpr, usize), NoTree>
         requires { Nests self.now.nesting (F.pre self.now.nested) (F.post self.now.nested) }
-        ensures { Reads (spec.rest_of_expression (reads self.now.nesting level) first symbols.old.rest.now) result symbols.new.rest.now }
+        ensures { Reads (spec.rest_of_expression (reads self.now.nesting level) first
+            symbols.old.rest.now) result symbols.new.rest.now }
     {
         let (items, depth) = self.more_items(symbols, level, None, first)?;
         joined(items, depth)
@@ -93,7 +96,8 @@ impl<F: Fn(Global, &mut Cursor<'_>, usize, Level) -> May<(BareExpr, usize), NoTr
         level: Level,
     ) -> May<(BareExpr, usize), NoTree>
         requires { Nests self.now.nesting (F.pre self.now.nested) (F.post self.now.nested) }
-        ensures { Reads (spec.expression (reads self.now.nesting level) symbols.old.rest.now) result symbols.new.rest.now }
+        ensures { Reads (spec.expression (reads self.now.nesting level) symbols.old.rest.now) result
+            symbols.new.rest.now }
     {
         let first = self.nested(symbols, level)?;
         self.rest_of_expression(symbols, level, first)
@@ -103,7 +107,8 @@ impl<F: Fn(Global, &mut Cursor<'_>, usize, Level) -> May<(BareExpr, usize), NoTr
     #[tactic(auto, unfolding(star_grammar::specs::ExpressionReading::vars))]
     pub(crate) fn vars(&self, symbols: &mut Cursor<'_>) -> May<(BareExpr, usize), NoTree>
         requires { Nests self.now.nesting (F.pre self.now.nested) (F.post self.now.nested) }
-        ensures { Reads (spec.vars (reads self.now.nesting level.Primary) symbols.old.rest.now) result symbols.new.rest.now }
+        ensures { Reads (spec.vars (reads self.now.nesting level.Primary) symbols.old.rest.now) result
+            symbols.new.rest.now }
     {
         let targets = Held::new(self.expression(symbols, Level::Primary)?);
         checked(is_target(&targets.get().0))?;

@@ -1,4 +1,5 @@
-//! Operands: `Operand = identifier | integer | string | '[' [Expression | Test Comp] ']' | '{' [Entry {',' Entry} [','] | Entry Comp] '}' | '(' [Expression] ')'`.
+//! Operands: `Operand = identifier | integer | string | '[' [Expression | Test Comp] ']' | '{'
+//! [Entry {',' Entry} [','] | Entry Comp] '}' | '(' [Expression] ')'`.
 ghost use Rattle.std.specs.Prelude.{◌≡◌, Some};
 ghost use Rattle.star_grammar.specs.ExpressionReading as spec;
 ghost use Rattle.star_grammar.specs.ExpressionReading.{reads};
@@ -35,7 +36,8 @@ impl<F: Fn(Global, &mut Cursor<'_>, usize, Level) -> May<(BareExpr, usize), NoTr
     #[tactic(auto, unfolding(star_grammar::specs::ExpressionReading::atom))]
     fn atom(&self, symbols: &mut Cursor<'_>) -> May<(BareExpr, usize), NoTree>
         requires { Nests self.now.nesting (F.pre self.now.nested) (F.post self.now.nested) }
-        ensures { Reads (spec.atom (reads self.now.nesting) symbols.old.rest.now) result symbols.new.rest.now }
+        ensures { Reads (spec.atom (reads self.now.nesting) symbols.old.rest.now) result
+            symbols.new.rest.now }
     {
         match symbols.rest {
             [symbol, rest @ ..] => {
@@ -51,7 +53,8 @@ impl<F: Fn(Global, &mut Cursor<'_>, usize, Level) -> May<(BareExpr, usize), NoTr
     #[tactic(auto, unfolding(star_grammar::specs::ExpressionReading::list_comp))]
     fn list_comp(&self, symbols: &mut Cursor<'_>, item: HeldTree) -> May<(BareExpr, usize), NoTree>
         requires { Nests self.now.nesting (F.pre self.now.nested) (F.post self.now.nested) }
-        ensures { Reads (spec.list_comp (reads self.now.nesting) item symbols.old.rest.now) result symbols.new.rest.now }
+        ensures { Reads (spec.list_comp (reads self.now.nesting) item symbols.old.rest.now) result
+            symbols.new.rest.now }
     {
         let (clauses, own) = self.comp(symbols)?;
         symbols.expect(Sign::RightSquare)?;
@@ -67,7 +70,8 @@ impl<F: Fn(Global, &mut Cursor<'_>, usize, Level) -> May<(BareExpr, usize), NoTr
         first: (BareExpr, usize),
     ) -> May<(BareExpr, usize), NoTree>
         requires { Nests self.now.nesting (F.pre self.now.nested) (F.post self.now.nested) }
-        ensures { Reads (spec.list_of (reads self.now.nesting) first symbols.old.rest.now) result symbols.new.rest.now }
+        ensures { Reads (spec.list_of (reads self.now.nesting) first symbols.old.rest.now) result
+            symbols.new.rest.now }
     {
         let (items, depth) = self.more_items(symbols, Level::Test, Some(Sign::RightSquare), first)?;
         symbols.closed(Sign::Comma, Sign::RightSquare)?;
@@ -78,7 +82,8 @@ impl<F: Fn(Global, &mut Cursor<'_>, usize, Level) -> May<(BareExpr, usize), NoTr
     #[tactic(auto, unfolding(star_grammar::specs::ExpressionReading::square))]
     fn square(&self, symbols: &mut Cursor<'_>) -> May<(BareExpr, usize), NoTree>
         requires { Nests self.now.nesting (F.pre self.now.nested) (F.post self.now.nested) }
-        ensures { Reads (spec.square (reads self.now.nesting) symbols.old.rest.now) result symbols.new.rest.now }
+        ensures { Reads (spec.square (reads self.now.nesting) symbols.old.rest.now) result
+            symbols.new.rest.now }
     {
         if symbols.eat(Sign::RightSquare) {
             return deep(BareExpr::List(Items::new(self.alloc)), 0);
@@ -95,7 +100,8 @@ impl<F: Fn(Global, &mut Cursor<'_>, usize, Level) -> May<(BareExpr, usize), NoTr
     #[tactic(auto, unfolding(star_grammar::specs::ExpressionReading::entry))]
     fn entry(&self, symbols: &mut Cursor<'_>) -> May<(BarePair, usize), NoTree>
         requires { Nests self.now.nesting (F.pre self.now.nested) (F.post self.now.nested) }
-        ensures { Reads (spec.entry (reads self.now.nesting) symbols.old.rest.now) result symbols.new.rest.now }
+        ensures { Reads (spec.entry (reads self.now.nesting) symbols.old.rest.now) result
+            symbols.new.rest.now }
     {
         let key = Held::new(self.nested(symbols, Level::Test)?);
         symbols.expect(Sign::Colon)?;
@@ -112,7 +118,8 @@ impl<F: Fn(Global, &mut Cursor<'_>, usize, Level) -> May<(BareExpr, usize), NoTr
         first: (BarePair, usize),
     ) -> May<(Items<BarePair>, usize), NoTree>
         requires { Nests self.now.nesting (F.pre self.now.nested) (F.post self.now.nested) }
-        ensures { Reads (more s.Comma (Some s.RightCurly) (spec.entry (reads self.now.nesting)) (one first) symbols.old.rest.now) result symbols.new.rest.now }
+        ensures { Reads (more s.Comma (Some s.RightCurly) (spec.entry (reads self.now.nesting)) (one
+            first) symbols.old.rest.now) result symbols.new.rest.now }
     {
         let (pair, mut depth) = first;
         let mut pairs = only(self.alloc, pair)?;
@@ -137,7 +144,8 @@ impl<F: Fn(Global, &mut Cursor<'_>, usize, Level) -> May<(BareExpr, usize), NoTr
         value: HeldTree,
     ) -> May<(BareExpr, usize), NoTree>
         requires { Nests self.now.nesting (F.pre self.now.nested) (F.post self.now.nested) }
-        ensures { Reads (spec.dict_comp (reads self.now.nesting) key value symbols.old.rest.now) result symbols.new.rest.now }
+        ensures { Reads (spec.dict_comp (reads self.now.nesting) key value symbols.old.rest.now) result
+            symbols.new.rest.now }
     {
         let (clauses, last) = self.comp(symbols)?;
         symbols.expect(Sign::RightCurly)?;
@@ -159,7 +167,8 @@ impl<F: Fn(Global, &mut Cursor<'_>, usize, Level) -> May<(BareExpr, usize), NoTr
         first: (BarePair, usize),
     ) -> May<(BareExpr, usize), NoTree>
         requires { Nests self.now.nesting (F.pre self.now.nested) (F.post self.now.nested) }
-        ensures { Reads (spec.dict_of (reads self.now.nesting) first symbols.old.rest.now) result symbols.new.rest.now }
+        ensures { Reads (spec.dict_of (reads self.now.nesting) first symbols.old.rest.now) result
+            symbols.new.rest.now }
     {
         let (pairs, depth) = self.more_entries(symbols, first)?;
         symbols.closed(Sign::Comma, Sign::RightCurly)?;
@@ -170,7 +179,8 @@ impl<F: Fn(Global, &mut Cursor<'_>, usize, Level) -> May<(BareExpr, usize), NoTr
     #[tactic(auto, unfolding(star_grammar::specs::ExpressionReading::curly))]
     fn curly(&self, symbols: &mut Cursor<'_>) -> May<(BareExpr, usize), NoTree>
         requires { Nests self.now.nesting (F.pre self.now.nested) (F.post self.now.nested) }
-        ensures { Reads (spec.curly (reads self.now.nesting) symbols.old.rest.now) result symbols.new.rest.now }
+        ensures { Reads (spec.curly (reads self.now.nesting) symbols.old.rest.now) result
+            symbols.new.rest.now }
     {
         if symbols.eat(Sign::RightCurly) {
             return deep(BareExpr::Dict(Items::new(self.alloc)), 0);
@@ -195,7 +205,8 @@ impl<F: Fn(Global, &mut Cursor<'_>, usize, Level) -> May<(BareExpr, usize), NoTr
         first: (BareExpr, usize),
     ) -> May<(BareExpr, usize), NoTree>
         requires { Nests self.now.nesting (F.pre self.now.nested) (F.post self.now.nested) }
-        ensures { Reads (spec.round_of (reads self.now.nesting) first symbols.old.rest.now) result symbols.new.rest.now }
+        ensures { Reads (spec.round_of (reads self.now.nesting) first symbols.old.rest.now) result
+            symbols.new.rest.now }
     {
         let (items, depth) = self.more_items(symbols, Level::Test, Some(Sign::RightRound), first)?;
         let is_trailed = symbols.eat(Sign::Comma);
@@ -211,7 +222,8 @@ impl<F: Fn(Global, &mut Cursor<'_>, usize, Level) -> May<(BareExpr, usize), NoTr
     #[tactic(auto, unfolding(star_grammar::specs::ExpressionReading::round))]
     fn round(&self, symbols: &mut Cursor<'_>) -> May<(BareExpr, usize), NoTree>
         requires { Nests self.now.nesting (F.pre self.now.nested) (F.post self.now.nested) }
-        ensures { Reads (spec.round (reads self.now.nesting) symbols.old.rest.now) result symbols.new.rest.now }
+        ensures { Reads (spec.round (reads self.now.nesting) symbols.old.rest.now) result
+            symbols.new.rest.now }
     {
         if symbols.eat(Sign::RightRound) {
             return deep(BareExpr::Tuple(Items::new(self.alloc)), 0);
@@ -223,7 +235,8 @@ impl<F: Fn(Global, &mut Cursor<'_>, usize, Level) -> May<(BareExpr, usize), NoTr
     #[tactic(auto, unfolding(star_grammar::specs::ExpressionReading::operand))]
     pub(crate) fn operand(&self, symbols: &mut Cursor<'_>) -> May<(BareExpr, usize), NoTree>
         requires { Nests self.now.nesting (F.pre self.now.nested) (F.post self.now.nested) }
-        ensures { Reads (spec.operand (reads self.now.nesting) symbols.old.rest.now) result symbols.new.rest.now }
+        ensures { Reads (spec.operand (reads self.now.nesting) symbols.old.rest.now) result
+            symbols.new.rest.now }
     {
         if symbols.eat(Sign::LeftSquare) {
             self.square(symbols)

@@ -44,7 +44,8 @@ impl<F: Fn(Global, &mut Cursor<'_>, usize, Level) -> May<(BareExpr, usize), NoTr
     #[tactic(auto, unfolding(star_grammar::specs::ExpressionReading::named_param))]
     fn named_param(&self, symbols: &mut Cursor<'_>) -> May<(BareParam, usize), NoTree>
         requires { Nests self.now.nesting (F.pre self.now.nested) (F.post self.now.nested) }
-        ensures { Reads (spec.named_param (reads self.now.nesting level.Test) symbols.old.rest.now) result symbols.new.rest.now }
+        ensures { Reads (spec.named_param (reads self.now.nesting level.Test) symbols.old.rest.now) result
+            symbols.new.rest.now }
     {
         let name = symbols.name(self.alloc)?;
         if symbols.eat(Sign::Assign) {
@@ -58,7 +59,8 @@ impl<F: Fn(Global, &mut Cursor<'_>, usize, Level) -> May<(BareExpr, usize), NoTr
     #[tactic(auto, unfolding(star_grammar::specs::ExpressionReading::param))]
     fn param(&self, symbols: &mut Cursor<'_>) -> May<(BareParam, usize), NoTree>
         requires { Nests self.now.nesting (F.pre self.now.nested) (F.post self.now.nested) }
-        ensures { Reads (spec.param (reads self.now.nesting level.Test) symbols.old.rest.now) result symbols.new.rest.now }
+        ensures { Reads (spec.param (reads self.now.nesting level.Test) symbols.old.rest.now) result
+            symbols.new.rest.now }
     {
         let line = symbols.line();
         if symbols.eat(Sign::Star) {
@@ -79,7 +81,8 @@ impl<F: Fn(Global, &mut Cursor<'_>, usize, Level) -> May<(BareExpr, usize), NoTr
         first: (BareParam, usize),
     ) -> May<(Items<BareParam>, usize), NoTree>
         requires { Nests self.now.nesting (F.pre self.now.nested) (F.post self.now.nested) }
-        ensures { Reads (spec.more_params (reads self.now.nesting level.Test) close (one first) symbols.old.rest.now) result symbols.new.rest.now }
+        ensures { Reads (spec.more_params (reads self.now.nesting level.Test) close (one first)
+            symbols.old.rest.now) result symbols.new.rest.now }
     {
         let (param, mut depth) = first;
         let mut params = only(self.alloc, param)?;
@@ -102,7 +105,8 @@ impl<F: Fn(Global, &mut Cursor<'_>, usize, Level) -> May<(BareExpr, usize), NoTr
         symbols: &mut Cursor<'_>,
     ) -> May<(Items<BareParam>, usize), NoTree>
         requires { Nests self.now.nesting (F.pre self.now.nested) (F.post self.now.nested) }
-        ensures { Reads (spec.signature (reads self.now.nesting level.Test) symbols.old.rest.now) result symbols.new.rest.now }
+        ensures { Reads (spec.signature (reads self.now.nesting level.Test) symbols.old.rest.now) result
+            symbols.new.rest.now }
     {
         if symbols.eat(Sign::Colon) {
             return Ok((Items::new(self.alloc), 0));
@@ -120,7 +124,8 @@ impl<F: Fn(Global, &mut Cursor<'_>, usize, Level) -> May<(BareExpr, usize), NoTr
         symbols: &mut Cursor<'_>,
     ) -> May<(Items<BareParam>, usize), NoTree>
         requires { Nests self.now.nesting (F.pre self.now.nested) (F.post self.now.nested) }
-        ensures { Reads (spec.listed_params (reads self.now.nesting level.Test) symbols.old.rest.now) result symbols.new.rest.now }
+        ensures { Reads (spec.listed_params (reads self.now.nesting level.Test) symbols.old.rest.now)
+            result symbols.new.rest.now }
     {
         if symbols.eat(Sign::RightRound) {
             return Ok((Items::new(self.alloc), 0));

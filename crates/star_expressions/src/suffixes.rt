@@ -1,4 +1,6 @@
-//! What stands behind an operand: `Primary = Operand | Primary '.' identifier | Primary '(' [Arg {',' Arg} [',']] ')' | Primary '[' Expression ']' | Primary '[' [Test] ':' [Test] [':' [Test]] ']'`.
+//! What stands behind an operand: `Primary = Operand | Primary '.' identifier | Primary '(' [Arg
+//! {',' Arg} [',']] ')' | Primary '[' Expression ']' | Primary '[' [Test] ':' [Test] [':' [Test]]
+//! ']'`.
 ghost use Rattle.std.specs.Prelude.{◌≡◌, ◌||◌, Some, None, max};
 ghost use Rattle.star_grammar.specs.ExpressionReading as spec;
 ghost use Rattle.star_grammar.specs.ExpressionReading.{reads};
@@ -19,7 +21,8 @@ use star_grammar::{BareExpr, Level, Sign};
 use std::alloc::Global;
 
 fn begins_suffix(symbols: &Cursor<'_>) -> bool
-    ensures { result ≡ (sees s.Dot symbols.now.rest.now || (sees s.LeftRound symbols.now.rest.now || sees s.LeftSquare symbols.now.rest.now)) }
+    ensures { result ≡ (sees s.Dot symbols.now.rest.now || (sees s.LeftRound symbols.now.rest.now || sees
+        s.LeftSquare symbols.now.rest.now)) }
 {
     symbols.sees(Sign::Dot) || (symbols.sees(Sign::LeftRound) || symbols.sees(Sign::LeftSquare))
 }
@@ -35,7 +38,8 @@ fn sliced(
     end: HeldBound,
     step: HeldBound,
 ) -> May<(BareExpr, usize), NoTree>
-    ensures { Finds (deep (e.Slice of.0 begin.0 end.0 step.0) (max of.1 (max begin.1 (max end.1 step.1)))) result }
+    ensures { Finds (deep (e.Slice of.0 begin.0 end.0 step.0) (max of.1 (max begin.1 (max end.1 step.1))))
+        result }
 {
     let (of, depth) = boxed(alloc, of)?;
     let (begin, first) = begin.release();
@@ -55,7 +59,8 @@ impl<F: Fn(Global, &mut Cursor<'_>, usize, Level) -> May<(BareExpr, usize), NoTr
     #[tactic(auto, unfolding(star_grammar::specs::ExpressionReading::attr))]
     fn attr(&self, symbols: &mut Cursor<'_>, of: HeldTree) -> May<(BareExpr, usize), NoTree>
         requires { Nests self.now.nesting (F.pre self.now.nested) (F.post self.now.nested) }
-        ensures { Reads (spec.attr (reads self.now.nesting) of symbols.old.rest.now) result symbols.new.rest.now }
+        ensures { Reads (spec.attr (reads self.now.nesting) of symbols.old.rest.now) result
+            symbols.new.rest.now }
     {
         let name = symbols.name(self.alloc)?;
         let (of, depth) = boxed(self.alloc, of)?;
@@ -66,7 +71,8 @@ impl<F: Fn(Global, &mut Cursor<'_>, usize, Level) -> May<(BareExpr, usize), NoTr
     #[tactic(auto, unfolding(star_grammar::specs::ExpressionReading::call))]
     fn call(&self, symbols: &mut Cursor<'_>, of: HeldTree) -> May<(BareExpr, usize), NoTree>
         requires { Nests self.now.nesting (F.pre self.now.nested) (F.post self.now.nested) }
-        ensures { Reads (spec.call (reads self.now.nesting) of symbols.old.rest.now) result symbols.new.rest.now }
+        ensures { Reads (spec.call (reads self.now.nesting) of symbols.old.rest.now) result
+            symbols.new.rest.now }
     {
         let (args, own) = self.listed_args(symbols)?;
         checked(are_args(self.alloc, &args)?)?;
@@ -78,7 +84,8 @@ impl<F: Fn(Global, &mut Cursor<'_>, usize, Level) -> May<(BareExpr, usize), NoTr
     #[tactic(auto, unfolding(star_grammar::specs::ExpressionReading::bound))]
     fn bound(&self, symbols: &mut Cursor<'_>) -> May<(Option<Boxed<BareExpr>>, usize), NoTree>
         requires { Nests self.now.nesting (F.pre self.now.nested) (F.post self.now.nested) }
-        ensures { Reads (spec.bound (reads self.now.nesting) symbols.old.rest.now) result symbols.new.rest.now }
+        ensures { Reads (spec.bound (reads self.now.nesting) symbols.old.rest.now) result
+            symbols.new.rest.now }
     {
         if symbols.sees(Sign::Colon) || symbols.sees(Sign::RightSquare) {
             return Ok((None, 0));
@@ -91,7 +98,8 @@ impl<F: Fn(Global, &mut Cursor<'_>, usize, Level) -> May<(BareExpr, usize), NoTr
     #[tactic(auto, unfolding(star_grammar::specs::ExpressionReading::step))]
     fn step(&self, symbols: &mut Cursor<'_>) -> May<(Option<Boxed<BareExpr>>, usize), NoTree>
         requires { Nests self.now.nesting (F.pre self.now.nested) (F.post self.now.nested) }
-        ensures { Reads (spec.step (reads self.now.nesting) symbols.old.rest.now) result symbols.new.rest.now }
+        ensures { Reads (spec.step (reads self.now.nesting) symbols.old.rest.now) result
+            symbols.new.rest.now }
     {
         if symbols.eat(Sign::Colon) {
             self.bound(symbols)
@@ -109,7 +117,8 @@ impl<F: Fn(Global, &mut Cursor<'_>, usize, Level) -> May<(BareExpr, usize), NoTr
         begin: HeldBound,
     ) -> May<(BareExpr, usize), NoTree>
         requires { Nests self.now.nesting (F.pre self.now.nested) (F.post self.now.nested) }
-        ensures { Reads (spec.slice (reads self.now.nesting) of begin symbols.old.rest.now) result symbols.new.rest.now }
+        ensures { Reads (spec.slice (reads self.now.nesting) of begin symbols.old.rest.now) result
+            symbols.new.rest.now }
     {
         symbols.expect(Sign::Colon)?;
         let end = Held::new(self.bound(symbols)?);
@@ -127,7 +136,8 @@ impl<F: Fn(Global, &mut Cursor<'_>, usize, Level) -> May<(BareExpr, usize), NoTr
         first: HeldTree,
     ) -> May<(BareExpr, usize), NoTree>
         requires { Nests self.now.nesting (F.pre self.now.nested) (F.post self.now.nested) }
-        ensures { Reads (spec.index (reads self.now.nesting) of first symbols.old.rest.now) result symbols.new.rest.now }
+        ensures { Reads (spec.index (reads self.now.nesting) of first symbols.old.rest.now) result
+            symbols.new.rest.now }
     {
         let first = first.release();
         let at = Held::new(self.rest_of_expression(symbols, Level::Test, first)?);
@@ -144,7 +154,8 @@ impl<F: Fn(Global, &mut Cursor<'_>, usize, Level) -> May<(BareExpr, usize), NoTr
         of: HeldTree,
     ) -> May<(BareExpr, usize), NoTree>
         requires { Nests self.now.nesting (F.pre self.now.nested) (F.post self.now.nested) }
-        ensures { Reads (spec.begun_subscript (reads self.now.nesting) of symbols.old.rest.now) result symbols.new.rest.now }
+        ensures { Reads (spec.begun_subscript (reads self.now.nesting) of symbols.old.rest.now) result
+            symbols.new.rest.now }
     {
         let first = Held::new(self.nested(symbols, Level::Test)?);
         if symbols.sees(Sign::Colon) {
@@ -159,7 +170,8 @@ impl<F: Fn(Global, &mut Cursor<'_>, usize, Level) -> May<(BareExpr, usize), NoTr
     #[tactic(auto, unfolding(star_grammar::specs::ExpressionReading::subscript))]
     fn subscript(&self, symbols: &mut Cursor<'_>, of: HeldTree) -> May<(BareExpr, usize), NoTree>
         requires { Nests self.now.nesting (F.pre self.now.nested) (F.post self.now.nested) }
-        ensures { Reads (spec.subscript (reads self.now.nesting) of symbols.old.rest.now) result symbols.new.rest.now }
+        ensures { Reads (spec.subscript (reads self.now.nesting) of symbols.old.rest.now) result
+            symbols.new.rest.now }
     {
         if symbols.sees(Sign::Colon) {
             self.slice(symbols, of, Held::new((None, 0)))
@@ -171,7 +183,8 @@ impl<F: Fn(Global, &mut Cursor<'_>, usize, Level) -> May<(BareExpr, usize), NoTr
     #[tactic(auto, unfolding(star_grammar::specs::ExpressionReading::suffix))]
     fn suffix(&self, symbols: &mut Cursor<'_>, of: HeldTree) -> May<(BareExpr, usize), NoTree>
         requires { Nests self.now.nesting (F.pre self.now.nested) (F.post self.now.nested) }
-        ensures { Reads (spec.suffix (reads self.now.nesting) of symbols.old.rest.now) result symbols.new.rest.now }
+        ensures { Reads (spec.suffix (reads self.now.nesting) of symbols.old.rest.now) result
+            symbols.new.rest.now }
     {
         if symbols.eat(Sign::Dot) {
             self.attr(symbols, of)
@@ -190,7 +203,8 @@ impl<F: Fn(Global, &mut Cursor<'_>, usize, Level) -> May<(BareExpr, usize), NoTr
         first: (BareExpr, usize),
     ) -> May<(BareExpr, usize), NoTree>
         requires { Nests self.now.nesting (F.pre self.now.nested) (F.post self.now.nested) }
-        ensures { Reads (turns (spec.begins_suffix (reads self.now.nesting)) (spec.suffix (reads self.now.nesting)) first symbols.old.rest.now) result symbols.new.rest.now }
+        ensures { Reads (turns (spec.begins_suffix (reads self.now.nesting)) (spec.suffix (reads
+            self.now.nesting)) first symbols.old.rest.now) result symbols.new.rest.now }
     {
         let mut found = Held::new(first);
         'turns: for turn in 0..symbols.left() {
@@ -205,7 +219,8 @@ impl<F: Fn(Global, &mut Cursor<'_>, usize, Level) -> May<(BareExpr, usize), NoTr
     #[tactic(auto, unfolding(star_grammar::specs::ExpressionReading::primary))]
     pub(crate) fn primary(&self, symbols: &mut Cursor<'_>) -> May<(BareExpr, usize), NoTree>
         requires { Nests self.now.nesting (F.pre self.now.nested) (F.post self.now.nested) }
-        ensures { Reads (spec.primary (reads self.now.nesting) symbols.old.rest.now) result symbols.new.rest.now }
+        ensures { Reads (spec.primary (reads self.now.nesting) symbols.old.rest.now) result
+            symbols.new.rest.now }
     {
         let first = self.operand(symbols)?;
         self.suffixes(symbols, first)

@@ -1,5 +1,7 @@
--- The first symbol of what stands, and the first behind it: how tight a sign binds what stands before it, and what begins with a symbol.
-use Rattle.std.proofs.Common.{◌≡◌, ℕ, suc, ◌<◌, ◌≤◌, false, List, [], ◌∷◌, Option, Some, None, eqb, refl, arith, ap}
+-- The first symbol of what stands, and the first behind it: how tight a sign binds what stands
+-- before it, and what begins with a symbol.
+use Rattle.std.proofs.Common.{◌≡◌, ℕ, suc, ◌<◌, ◌≤◌, false, List, [], ◌∷◌, Option, Some, None, eqb}
+use Rattle.std.proofs.Common.{refl, arith, ap}
 use Rattle.std.proofs.lemmas.Bool.{eqb-true, cond_both}
 use Rattle.std.proofs.lemmas.Option.{none-some}
 use Rattle.star_trees.specs.declared.trees.BinOp.{BinOp}
@@ -10,10 +12,12 @@ use Rattle.star_grammar.specs.declared.symbols.Symbol.{Symbol}
 use Rattle.star_grammar.specs.declared.symbols.SymbolKind.{SymbolKind}
 use Rattle.star_grammar.specs.declared.symbols.SymbolKind.TheVariants as kind
 use Rattle.star_grammar.specs.Readers.{sees, sees_word, front_of}
-use Rattle.star_grammar.specs.Operators.{at_level, operator, comparison, prefix, negation, augmented}
+use Rattle.star_grammar.specs.Operators.{at_level, operator, comparison, prefix, negation}
+use Rattle.star_grammar.specs.Operators.{augmented}
 use Rattle.star_grammar.proofs.Steps.{by_sign, by_front, by_word}
 
--- suffixes 0, binary operators one more than their level up to `|`, comparisons and `not` 7, `and` 8, `or` 9, `if` 10, assignments 11, what ends an expression 12
+-- suffixes 0, binary operators one more than their level up to `|`, comparisons and `not` 7, `and`
+-- 8, `or` 9, `if` 10, assignments 11, what ends an expression 12
 abbrev pub sign_force : Sign → ℕ
 sign_force s.Dot = 0
 sign_force s.LeftRound = 0
@@ -62,7 +66,8 @@ abbrev pub force : List Symbol → ℕ
 force [] = 12
 force (symbol ∷ _) = kind_force symbol.kind
 
--- operands 0, unary operators 1, `not` 2, `lambda` 3, stars and small statements 4, statements with suites 5, and 6 where nothing begins
+-- operands 0, unary operators 1, `not` 2, `lambda` 3, stars and small statements 4, statements with
+-- suites 5, and 6 where nothing begins
 abbrev pub sign_class : Sign → ℕ
 sign_class s.LeftRound = 0
 sign_class s.LeftSquare = 0
@@ -95,26 +100,54 @@ class [] = 6
 class (symbol ∷ _) = kind_class symbol.kind
 
 -- a sign that binds no looser isn't seen
-pub unforced : (what : Sign) (n : ℕ) → sign_force what ≤ n → (i : List Symbol) → n < force i → sees what i ≡ false
-unforced what n low i high = by_sign what (λ i. n < force i → sees what i ≡ false) (λ l j over. absurd (omega arith)) i (λ e _. e) high
+pub unforced : (what : Sign) (n : ℕ)
+    → sign_force what ≤ n
+    → (i : List Symbol)
+    → n < force i
+    → sees what i ≡ false
+unforced what n low i high = by_sign what (λ i. n < force i → sees what i ≡ false)
+    (λ l j over. absurd (omega arith)) i (λ e _. e) high
 
 -- a sign that begins less isn't seen
-pub unopened : (what : Sign) (n : ℕ) → n < sign_class what → (i : List Symbol) → class i ≤ n → sees what i ≡ false
-unopened what n high i low = by_sign what (λ i. class i ≤ n → sees what i ≡ false) (λ l j under. absurd (omega arith)) i (λ e _. e) low
+pub unopened : (what : Sign) (n : ℕ)
+    → n < sign_class what
+    → (i : List Symbol)
+    → class i ≤ n
+    → sees what i ≡ false
+unopened what n high i low = by_sign what (λ i. class i ≤ n → sees what i ≡ false)
+    (λ l j under. absurd (omega arith)) i (λ e _. e) low
 
 pub unworded : (i : List Symbol) → 0 < force i → sees_word i ≡ false
-unworded i high = by_word (λ i. 0 < force i → sees_word i ≡ false) (λ called l j over. absurd (omega arith)) i (λ e _. e) high
+unworded i high = by_word (λ i. 0 < force i → sees_word i ≡ false)
+    (λ called l j over. absurd (omega arith)) i (λ e _. e) high
 
-pub untabled : {B : Type 0} (table : Sign → Option B) (n : ℕ) → ((what : Sign) (op : B) → table what ≡ Some op → sign_force what ≤ n) → (i : List Symbol) → n < force i → front_of table i ≡ None
-untabled {B} table n low i high = by_front table (λ i o. n < force i → o ≡ None) (λ what l op j known over. let bound = low what op known in absurd (omega arith)) i (λ _ _. refl) high
+pub untabled : {B : Type 0} (table : Sign → Option B) (n : ℕ)
+    → ((what : Sign) (op : B) → table what ≡ Some op → sign_force what ≤ n)
+    → (i : List Symbol)
+    → n < force i
+    → front_of table i ≡ None
+untabled {B} table n low i high = by_front table (λ i o. n < force i → o ≡ None)
+    (λ what l op j known over. let bound = low what op known in absurd (omega arith)) i
+    (λ _ _. refl) high
 
-pub untabled_front : {B : Type 0} (table : Sign → Option B) (n : ℕ) → ((what : Sign) (op : B) → table what ≡ Some op → n < sign_class what) → (i : List Symbol) → class i ≤ n → front_of table i ≡ None
-untabled_front {B} table n high i low = by_front table (λ i o. class i ≤ n → o ≡ None) (λ what l op j known under. let bound = high what op known in absurd (omega arith)) i (λ _ _. refl) low
+pub untabled_front : {B : Type 0} (table : Sign → Option B) (n : ℕ)
+    → ((what : Sign) (op : B) → table what ≡ Some op → n < sign_class what)
+    → (i : List Symbol)
+    → class i ≤ n
+    → front_of table i ≡ None
+untabled_front {B} table n high i low = by_front table (λ i o. class i ≤ n → o ≡ None)
+    (λ what l op j known under. let bound = high what op known in absurd (omega arith)) i
+    (λ _ _. refl) low
 
 at-level : (level k : ℕ) (is op : BinOp) → at_level level (Some (k, is)) ≡ Some op → k ≡ level
-at-level level k is op e = cond_both (eqb k level) (Some is) None (λ o. o ≡ Some op → k ≡ level) (λ same _. eqb-true k level same) (λ _ none. absurd (none-some op none)) e
+at-level level k is op e = cond_both (eqb k level) (Some is) None (λ o. o ≡ Some op → k ≡ level)
+    (λ same _. eqb-true k level same) (λ _ none. absurd (none-some op none)) e
 
-pub operator-arithmetic : (binary : ℕ) → binary < 6 → (what : Sign) (op : BinOp) → operator binary what ≡ Some op → sign_force what ≡ suc binary
+pub operator-arithmetic : (binary : ℕ)
+    → binary < 6
+    → (what : Sign) (op : BinOp)
+    → operator binary what ≡ Some op
+    → sign_force what ≡ suc binary
 operator-arithmetic binary low s.Star op e = ap suc (at-level binary _ _ op e)
 operator-arithmetic binary low s.Slashes op e = ap suc (at-level binary _ _ op e)
 operator-arithmetic binary low s.Percent op e = ap suc (at-level binary _ _ op e)
@@ -125,8 +158,10 @@ operator-arithmetic binary low s.ShiftRight op e = ap suc (at-level binary _ _ o
 operator-arithmetic binary low s.Ampersand op e = ap suc (at-level binary _ _ op e)
 operator-arithmetic binary low s.Caret op e = ap suc (at-level binary _ _ op e)
 operator-arithmetic binary low s.Bar op e = ap suc (at-level binary _ _ op e)
-operator-arithmetic binary low s.And op e = let same = at-level binary _ _ op e in absurd (omega arith)
-operator-arithmetic binary low s.Or op e = let same = at-level binary _ _ op e in absurd (omega arith)
+operator-arithmetic binary low s.And op e = let same = at-level binary _ _ op e in absurd
+    (omega arith)
+operator-arithmetic binary low s.Or op e = let same = at-level binary _ _ op e in absurd
+    (omega arith)
 operator-arithmetic binary low _ op e = absurd (none-some op e)
 
 pub operator-and : (what : Sign) (op : BinOp) → operator 6 what ≡ Some op → sign_force what ≡ 8

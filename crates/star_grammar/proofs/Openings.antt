@@ -19,18 +19,25 @@ use Rattle.star_grammar.proofs.Fronts.{class, prefix-class, negation-class}
 abbrev pub Opens : {A : Type 0} → ℕ → Rule A → Type 0
 Opens {A} n rule = (i : List Symbol) (a : A) (r : List Symbol) → rule i a r → class i ≤ n
 
-pub Repeated-opens : {A : Type 0} (n : ℕ) (First : Rule A) (Turn : A → Rule A) → Opens n First → Opens n (Repeated First Turn)
+pub Repeated-opens : {A : Type 0} (n : ℕ) (First : Rule A) (Turn : A → Rule A)
+    → Opens n First
+    → Opens n (Repeated First Turn)
 Repeated-opens n First Turn first i a r (Repeated.begins so) = first i a r so
-Repeated-opens n First Turn first i a r (Repeated.goes {j} {a = b} so _) = Repeated-opens n First Turn first i b j so
+Repeated-opens n First Turn first i a r
+    (Repeated.goes {j} {a = b} so _) = Repeated-opens n First Turn first i b j so
 
 pub One-opens : {A : Type 0} (n : ℕ) (item : Rule (Deep A)) → Opens n item → Opens n (One item)
 One-opens n item opens i a r (One.one {a = b} so) = opens i b r so
 
-pub Series-opens : {A : Type 0} (n : ℕ) (between : Sign) (item : Rule (Deep A)) → Opens n item → Opens n (Series between item)
-Series-opens n between item opens = Repeated-opens n (One item) (Adds (After between item)) (One-opens n item opens)
+pub Series-opens : {A : Type 0} (n : ℕ) (between : Sign) (item : Rule (Deep A))
+    → Opens n item
+    → Opens n (Series between item)
+Series-opens n between item opens = Repeated-opens n (One item) (Adds (After between item))
+    (One-opens n item opens)
 
 pub Expression-opens : (n : ℕ) (item : Rule Tree) → Opens n item → Opens n (g.Expression item)
-Expression-opens n item opens i a r (g.Expression.listed {items} so _) = Series-opens n s.Comma item opens i items r so
+Expression-opens n item opens i a r
+    (g.Expression.listed {items} so _) = Series-opens n s.Comma item opens i items r so
 
 pub Param-opens : (item : Rule Tree) → Opens 4 (g.Param item)
 Param-opens item i a r g.Param.required = omega arith
@@ -74,15 +81,19 @@ module _ (Nested : Level → Rule Tree) where
 
   pub Unary-opens : Opens 1 (g.Unary Nested)
   Unary-opens i a r (g.Prefixed.plain so) = let under = Primary-opens i a r so in omega arith
-  Unary-opens i a r (g.Prefixed.prefixed {what} {op} known _ _) = let same = prefix-class what op known in omega arith
+  Unary-opens i a r (g.Prefixed.prefixed {what} {op} known _ _) = let same = prefix-class what op
+      known in omega arith
 
-  pub Chain-opens : (n binary : ℕ) (tighter : Rule Tree) → Opens n tighter → Opens n (g.Chain binary tighter)
+  pub Chain-opens : (n binary : ℕ) (tighter : Rule Tree)
+      → Opens n tighter
+      → Opens n (g.Chain binary tighter)
   Chain-opens n binary tighter = Repeated-opens n tighter (g.Operation binary tighter)
 
   pub Arithmetic-opens : (binary : ℕ) → Opens 1 (g.Arithmetic Nested binary)
   unfolding g.Arithmetic
   Arithmetic-opens zero = Unary-opens
-  Arithmetic-opens (suc binary) = Chain-opens 1 binary (g.Arithmetic Nested binary) (Arithmetic-opens binary)
+  Arithmetic-opens (suc binary) = Chain-opens 1 binary (g.Arithmetic Nested binary)
+      (Arithmetic-opens binary)
 
   pub Comparison-opens : Opens 1 (g.Comparison (g.Arithmetic Nested 6))
   Comparison-opens i a r (g.Comparison.plain so) = Arithmetic-opens 6 i a r so
@@ -91,14 +102,18 @@ module _ (Nested : Level → Rule Tree) where
 
   pub Negation-opens : Opens 2 (g.Negation Nested)
   Negation-opens i a r (g.Prefixed.plain so) = let under = Comparison-opens i a r so in omega arith
-  Negation-opens i a r (g.Prefixed.prefixed {what} {op} known _ _) = let same = negation-class what op known in omega arith
+  Negation-opens i a r
+      (g.Prefixed.prefixed {what} {op} known _ _) = let same = negation-class what op known in omega
+      arith
 
   pub Disjunction-opens : Opens 2 (g.Disjunction Nested)
-  Disjunction-opens = Chain-opens 2 7 (g.Chain 6 (g.Negation Nested)) (Chain-opens 2 6 (g.Negation Nested) Negation-opens)
+  Disjunction-opens = Chain-opens 2 7 (g.Chain 6 (g.Negation Nested))
+      (Chain-opens 2 6 (g.Negation Nested) Negation-opens)
 
   pub Test-opens : Opens 3 (g.Test Nested)
   Test-opens i a r (g.Test.plain so) = let under = Disjunction-opens i a r so in omega arith
-  Test-opens i a r (g.Test.cond {then = chosen} so _ _ _) = let under = Disjunction-opens i chosen _ so in omega arith
+  Test-opens i a r (g.Test.cond {then = chosen} so _ _ _) = let under = Disjunction-opens i chosen _
+      so in omega arith
   Test-opens i a r (g.Test.lambda _ _ _ _) = omega arith
 
   At-opens : (what : Level) → Opens (opening what) (g.At Nested what)
@@ -126,31 +141,42 @@ module _ (Expressions : Level → Rule Tree) (test-opens : Opens 3 (Expressions 
   Small-opens inside i a r (t.Small.continues _) = omega arith
   Small-opens inside i a r t.Small.passes = omega arith
   Small-opens inside i a r (t.Small.loads _ _ _) = omega arith
-  Small-opens inside i a r (t.Small.assigned {to} so _ _ _) = let under = Whole-opens i to _ so in omega arith
-  Small-opens inside i a r (t.Small.changed {place} so _ _ _ _) = let under = Whole-opens i place _ so in omega arith
-  Small-opens inside i a r (t.Small.valued {value} so _) = let under = Whole-opens i value r so in omega arith
+  Small-opens inside i a r
+      (t.Small.assigned {to} so _ _ _) = let under = Whole-opens i to _ so in omega arith
+  Small-opens inside i a r
+      (t.Small.changed {place} so _ _ _ _) = let under = Whole-opens i place _ so in omega arith
+  Small-opens inside i a r
+      (t.Small.valued {value} so _) = let under = Whole-opens i value r so in omega arith
 
   pub Simple-opens : (inside : Inside) → Opens 4 (t.Simple Expressions inside)
-  Simple-opens inside i a r (Closed.plain so) = Series-opens 4 s.Semicolon (t.Small Expressions inside) (Small-opens inside) i a _ so
-  Simple-opens inside i a r (Closed.trailed so) = Series-opens 4 s.Semicolon (t.Small Expressions inside) (Small-opens inside) i a _ so
+  Simple-opens inside i a r (Closed.plain so) = Series-opens 4 s.Semicolon
+      (t.Small Expressions inside) (Small-opens inside) i a _ so
+  Simple-opens inside i a r (Closed.trailed so) = Series-opens 4 s.Semicolon
+      (t.Small Expressions inside) (Small-opens inside) i a _ so
 
-  Statement-opens : (Nested : Part → Inside → Rule Statements) (inside : Inside) → Opens 5 (t.Statement Expressions Nested inside)
+  Statement-opens : (Nested : Part → Inside → Rule Statements) (inside : Inside)
+      → Opens 5 (t.Statement Expressions Nested inside)
   Statement-opens Nested inside i a r (t.Statement.def _ _ _ _) = omega arith
   Statement-opens Nested inside i a r (t.Statement.branch (t.Branch.branch _ _ _ _)) = omega arith
   Statement-opens Nested inside i a r (t.Statement.loop _ _ _ _) = omega arith
-  Statement-opens Nested inside i a r (t.Statement.simple so) = let under = Simple-opens inside i a r so in omega arith
+  Statement-opens Nested inside i a r
+      (t.Statement.simple so) = let under = Simple-opens inside i a r so in omega arith
 
-pub Stands-opens : (nesting : ℕ) (inside : Inside) → Opens 5 (t.Stands nesting part.Statement inside)
+pub Stands-opens : (nesting : ℕ) (inside : Inside)
+    → Opens 5 (t.Stands nesting part.Statement inside)
 unfolding t.Stands
 Stands-opens zero inside i a r so = absurd so
-Stands-opens (suc nesting) inside i a r so = Statement-opens (g.Spells nesting) (Spells-opens nesting level.Test) (t.Stands nesting) inside i a r so
+Stands-opens (suc nesting) inside i a r so = Statement-opens (g.Spells nesting)
+    (Spells-opens nesting level.Test) (t.Stands nesting) inside i a r so
 
 pub Line-opens : (nesting : ℕ) (inside : Inside) → Opens 4 (t.Stands nesting part.Line inside)
 unfolding t.Stands
 Line-opens zero inside i a r so = absurd so
-Line-opens (suc nesting) inside i a r so = Simple-opens (g.Spells nesting) (Spells-opens nesting level.Test) inside i a r so
+Line-opens (suc nesting) inside i a r so = Simple-opens (g.Spells nesting)
+    (Spells-opens nesting level.Test) inside i a r so
 
-pub Elif-opens : (nesting : ℕ) (inside : Inside) (i : List Symbol) (a : Statements) (r : List Symbol) → t.Stands nesting part.Elif inside i a r → sees s.Elif i ≡ true
+pub Elif-opens : (nesting : ℕ) (inside : Inside) (i : List Symbol) (a : Statements)
+    (r : List Symbol) → t.Stands nesting part.Elif inside i a r → sees s.Elif i ≡ true
 unfolding t.Stands same_sign
 Elif-opens zero inside i a r so = absurd so
 Elif-opens (suc nesting) inside i a r (t.Branch.branch _ _ _ _) = refl

@@ -1,5 +1,6 @@
 -- Expressions, read: each reader for the rule of its name, with what nests as a parameter.
-use Rattle.std.specs.Prelude.{◌≡◌, ℕ, zero, suc, max, Bool, true, false, ◌&&◌, ◌||◌, if◌then◌else◌, List, [], ◌∷◌, Option, Some, None, is_some}
+use Rattle.std.specs.Prelude.{◌≡◌, ℕ, zero, suc, max, Bool, true, false, ◌&&◌, ◌||◌, if◌then◌else◌}
+use Rattle.std.specs.Prelude.{List, [], ◌∷◌, Option, Some, None, is_some}
 use Rattle.star_trees.specs.declared.trees.BinOp.{BinOp}
 use Rattle.star_trees.specs.declared.trees.BinOp.TheVariants as bin
 use Rattle.star_trees.specs.declared.trees.UnOp.{UnOp}
@@ -24,7 +25,9 @@ use Rattle.star_grammar.specs.Operators as operators
 use Rattle.star_grammar.specs.Operators.{operator}
 use Rattle.star_grammar.specs.Orders.{are_args, are_params, is_target}
 use Rattle.star_grammar.specs.Rules.{Deep, deep, front_line}
-use Rattle.star_grammar.specs.Readers.{Reader, ◌>>=◌, ◌>>◌, pure, refuse, given, checked, sees, behind, sees_word, front_of, goes_on, skip, eat, expect, look, name, closed, turns, one, adds, more}
+use Rattle.star_grammar.specs.Readers.{Reader, ◌>>=◌, ◌>>◌, pure, refuse, given, checked, sees}
+use Rattle.star_grammar.specs.Readers.{behind, sees_word, front_of, goes_on, skip, eat, expect}
+use Rattle.star_grammar.specs.Readers.{look, name, closed, turns, one, adds, more}
 
 -- the rest of a tuple without brackets
 unfoldable pub rest_of_expression : Reader Tree → Tree → Reader Tree
@@ -47,7 +50,8 @@ vars primary = do
 
 -- behind `*`
 unfoldable pub rest_param : ℕ → Reader (Deep BareParam)
-rest_param line = λ i. if sees_word i then (do rest ← name; pure (param_tree.Rest rest line, 1)) i else Some ((param_tree.Bare line, 1), i)
+rest_param line = λ i. if sees_word i then (do rest ← name; pure (param_tree.Rest rest line, 1)) i
+    else Some ((param_tree.Bare line, 1), i)
 
 unfoldable pub keywords_param : ℕ → Reader (Deep BareParam)
 keywords_param line = do
@@ -58,14 +62,19 @@ unfoldable pub named_param : Reader Tree → Reader (Deep BareParam)
 named_param test = do
   called ← name
   is_optional ← eat s.Assign
-  if is_optional then (do default ← test; pure (param_tree.Optional called default.0, default.1)) else pure (param_tree.Required called, 1)
+  if is_optional then (do default ← test; pure (param_tree.Optional called default.0, default.1))
+      else pure (param_tree.Required called, 1)
 
 unfoldable pub param : Reader Tree → Reader (Deep BareParam)
 param test = λ i.
     if sees s.Star i then (skip >> rest_param (front_line i)) i
-    else (if sees s.StarStar i then (skip >> keywords_param (front_line i)) i else named_param test i)
+    else (if sees s.StarStar i then (skip >> keywords_param (front_line i)) i else named_param test
+    i)
 
-unfoldable pub more_params : Reader Tree → Option Sign → Deep (List BareParam) → Reader (Deep (List BareParam))
+unfoldable pub more_params : Reader Tree
+    → Option Sign
+    → Deep (List BareParam)
+    → Reader (Deep (List BareParam))
 more_params test close = more s.Comma close (param test)
 
 -- the parameters of a `lambda`, and its colon
@@ -215,7 +224,8 @@ module _ (nested : Level → Reader Tree) where
       expect s.Colon
       value ← nested level.Test
       (λ i. if sees s.For i then dict_comp key value i
-          else dict_of (roll-BarePair (record { key = key.0; value = value.0 }), max key.1 value.1) i))
+          else dict_of (roll-BarePair (record { key = key.0; value = value.0 }), max key.1 value.1)
+          i))
 
   -- behind `(` and an expression
   unfoldable pub round_of : Tree → Reader Tree
@@ -358,7 +368,8 @@ module _ (nested : Level → Reader Tree) where
 
   abbrev pub compared_by : Tree → Option BinOp → Reader Tree
   compared_by left (Some op) = operated (arithmetic 6) op left
-  compared_by left None = λ i. if sees s.Not i && sees s.In (behind i) then outside left i else Some (left, i)
+  compared_by left None = λ i. if sees s.Not i && sees s.In (behind i) then outside left i
+      else Some (left, i)
 
   unfoldable pub comparison : Reader Tree
   comparison = do

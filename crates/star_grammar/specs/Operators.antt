@@ -7,7 +7,8 @@ use Rattle.star_trees.specs.declared.trees.UnOp.TheVariants as un
 use Rattle.star_grammar.specs.declared.symbols.Sign.{Sign}
 use Rattle.star_grammar.specs.declared.symbols.Sign.TheVariants as s
 
--- the binary operators with the level of each, from the tightest, which is 0: products, sums, shifts, `&`, `^`, `|`, `and`, `or`
+-- the binary operators with the level of each, from the tightest, which is 0: products, sums,
+-- shifts, `&`, `^`, `|`, `and`, `or`
 abbrev pub chained : Sign → Option (ℕ × BinOp)
 chained s.Star = Some (0, bin.Mul)
 chained s.Slashes = Some (0, bin.Div)

@@ -1,9 +1,14 @@
--- What the grammar asks of trees besides: the order of parameters and arguments, names that differ, targets and places. The Starlark specification, "Function and method calls", "Function definitions", "Assignments".
-use Rattle.std.specs.Prelude.{ℕ, Bool, true, false, ◌&&◌, ◌==◌, nat_le, if◌then◌else◌, List, [], ◌∷◌, Option, Some, None}
+-- What the grammar asks of trees besides: the order of parameters and arguments, names that differ,
+-- targets and places. The Starlark specification, "Function and method calls", "Function
+-- definitions", "Assignments".
+use Rattle.std.specs.Prelude.{ℕ, Bool, true, false, ◌&&◌, ◌==◌, nat_le, if◌then◌else◌, List, []}
+use Rattle.std.specs.Prelude.{◌∷◌, Option, Some, None}
 use Rattle.star_grammar.specs.declared.bare_expressions.BareArg.{BareArg, out-BareArg}
-use Rattle.star_grammar.specs.declared.bare_expressions.BareArg.TheOpen.{BareArg-F, BareExpr-F, BareParam-F}
+use Rattle.star_grammar.specs.declared.bare_expressions.BareArg.TheOpen.{BareArg-F, BareExpr-F}
+use Rattle.star_grammar.specs.declared.bare_expressions.BareArg.TheOpen.{BareParam-F}
 use Rattle.star_grammar.specs.declared.bare_expressions.BareClause.{BareClause}
-use Rattle.star_grammar.specs.declared.bare_expressions.BareExpr.{BareExpr, fold-BareExpr, out-BareExpr}
+use Rattle.star_grammar.specs.declared.bare_expressions.BareExpr.{BareExpr, fold-BareExpr}
+use Rattle.star_grammar.specs.declared.bare_expressions.BareExpr.{out-BareExpr}
 use Rattle.star_grammar.specs.declared.bare_expressions.BarePair.{BarePair}
 use Rattle.star_grammar.specs.declared.bare_expressions.BareParam.{BareParam, out-BareParam}
 use Rattle.star_trees.specs.Lists.{all_different, may_follow, some_and_all, with_name}
@@ -29,7 +34,8 @@ arg_stage (BareArg-F.DoubleStar value line) = 3
 abbrev pub args_in_order : ℕ → List BareArg → Bool
 args_in_order last [] = true
 args_in_order last (arg ∷ args) =
-    may_follow last (arg_stage (out-BareArg arg)) && args_in_order (arg_stage (out-BareArg arg)) args
+    may_follow last (arg_stage (out-BareArg arg))
+    && args_in_order (arg_stage (out-BareArg arg)) args
 
 abbrev pub arg_name : ArgLayer → Option (List ℕ)
 arg_name (BareArg-F.Positional value) = None
@@ -59,7 +65,8 @@ param_stage last (BareParam-F.Keywords name line) = if nat_le last 3 then Some 4
 abbrev pub params_in_order : Option ℕ → List BareParam → Bool
 params_in_order None params = false
 params_in_order (Some last) [] = true
-params_in_order (Some last) (param ∷ params) = params_in_order (param_stage last (out-BareParam param)) params
+params_in_order (Some last) (param ∷ params) = params_in_order
+    (param_stage last (out-BareParam param)) params
 
 abbrev pub param_name : ParamLayer → Option (List ℕ)
 param_name (BareParam-F.Required name) = Some name
@@ -77,7 +84,8 @@ are_params params = params_in_order (Some 0) params && all_different (param_name
 
 -- ---- targets and places
 
--- a name, an index, a target in round brackets, or one or more targets as a tuple or in square brackets
+-- a name, an index, a target in round brackets, or one or more targets as a tuple or in square
+-- brackets
 abbrev pub target_step : BareExpr-F ℕ ℕ Bool ℕ ℕ → Bool
 target_step (BareExpr-F.Name name) = true
 target_step (BareExpr-F.Index container at) = true

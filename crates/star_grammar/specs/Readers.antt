@@ -1,5 +1,8 @@
--- What the definition of the parser is made of: readers, which take what stands at the front of some symbols.
-use Rattle.std.specs.Prelude.{◌≡◌, ℕ, zero, suc, max, Bool, true, false, not, ◌&&◌, if◌then◌else◌, List, [], ◌∷◌, ◌++◌, length, Option, Some, None, option_and_then, is_some}
+-- What the definition of the parser is made of: readers, which take what stands at the front of
+-- some symbols.
+use Rattle.std.specs.Prelude.{◌≡◌, ℕ, zero, suc, max, Bool, true, false, not, ◌&&◌, if◌then◌else◌}
+use Rattle.std.specs.Prelude.{List, [], ◌∷◌, ◌++◌, length, Option, Some, None, option_and_then}
+use Rattle.std.specs.Prelude.{is_some}
 use denote.Enum.Bare.{sameb}
 use Rattle.star_grammar.specs.contracts.symbols.Sign.{the_type}
 use Rattle.star_grammar.specs.declared.symbols.Sign.{Sign}
@@ -12,7 +15,10 @@ use Rattle.star_grammar.specs.Rules.{Deep, front_line}
 abbrev pub Reader : Type 0 → Type 0
 Reader A = List Symbol → Option (A × List Symbol)
 
-abbrev pub and_then : {A B : Type 0} → Option (A × List Symbol) → (A → Reader B) → Option (B × List Symbol)
+abbrev pub and_then : {A B : Type 0}
+    → Option (A × List Symbol)
+    → (A → Reader B)
+    → Option (B × List Symbol)
 and_then None next = None
 and_then (Some found) next = next found.0 found.1
 
@@ -77,7 +83,8 @@ front_sign (symbol ∷ _) = sign_of symbol.kind
 abbrev pub front_of : {A : Type 0} → (Sign → Option A) → List Symbol → Option A
 front_of table i = option_and_then table (front_sign i)
 
--- whether another item comes: behind the sign between items the sign that may close them doesn't stand
+-- whether another item comes: behind the sign between items the sign that may close them doesn't
+-- stand
 abbrev pub goes_on : Sign → Option Sign → List Symbol → Bool
 goes_on between None i = sees between i
 goes_on between (Some close) i = sees between i && not (sees close (behind i))
@@ -122,7 +129,8 @@ text = taken text_in
 abbrev pub closed : Sign → Sign → Reader (Unit {0})
 closed between close = eat between >> expect close
 
--- ---- lists. The number bounds the turns; each turn takes a symbol, so that the count of symbols is enough.
+-- ---- lists. The number bounds the turns; each turn takes a symbol, so that the count of symbols
+-- is enough.
 
 unfoldable pub rounds : {A : Type 0} → (List Symbol → Bool) → (A → Reader A) → ℕ → A → Reader A
 rounds goes turn zero a = pure a
@@ -146,5 +154,10 @@ joins more items = do
   pure (items.0 ++ a.0, max items.1 a.1)
 
 -- {sign item}, behind the items so far
-abbrev pub more : {A : Type 0} → Sign → Option Sign → Reader (Deep A) → Deep (List A) → Reader (Deep (List A))
+abbrev pub more : {A : Type 0}
+    → Sign
+    → Option Sign
+    → Reader (Deep A)
+    → Deep (List A)
+    → Reader (Deep (List A))
 more between close item = turns (goes_on between close) (λ items. skip >> adds item items)

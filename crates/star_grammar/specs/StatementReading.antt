@@ -1,5 +1,6 @@
 -- Statements and files, read: each reader for the rule of its name, with what nests as a parameter.
-use Rattle.std.specs.Prelude.{ℕ, zero, suc, max, Bool, true, false, not, ◌||◌, if◌then◌else◌, List, [], ◌∷◌, Option, Some, None}
+use Rattle.std.specs.Prelude.{ℕ, zero, suc, max, Bool, true, false, not, ◌||◌, if◌then◌else◌, List}
+use Rattle.std.specs.Prelude.{[], ◌∷◌, Option, Some, None}
 use Rattle.star_trees.specs.declared.trees.BinOp.{BinOp}
 use Rattle.star_grammar.specs.declared.symbols.Sign.TheVariants as s
 use Rattle.star_grammar.specs.declared.symbols.Symbol.{Symbol}
@@ -17,7 +18,9 @@ use Rattle.star_grammar.specs.Expressions.{Tree}
 use Rattle.star_grammar.specs.ExpressionReading.{expression, vars, listed_params, reads}
 use Rattle.star_grammar.specs.Operators as operators
 use Rattle.star_grammar.specs.Orders.{are_params, is_place, is_target}
-use Rattle.star_grammar.specs.Readers.{Reader, ◌>>=◌, ◌>>◌, pure, refuse, given, checked, sees, behind, sees_word, front_of, skip, expect, name, text, closed, turns, one, joins, more}
+use Rattle.star_grammar.specs.Readers.{Reader, ◌>>=◌, ◌>>◌, pure, refuse, given, checked, sees}
+use Rattle.star_grammar.specs.Readers.{behind, sees_word, front_of, skip, expect, name, text}
+use Rattle.star_grammar.specs.Readers.{closed, turns, one, joins, more}
 use Rattle.star_grammar.specs.Rules.{Deep, deep, front_line}
 use Rattle.star_grammar.specs.Statements.{Statements, on_line}
 use Rattle.star_trees.specs.Surroundings.{at_top, in_branch, in_loop, in_function}
@@ -109,7 +112,8 @@ module _ (expressions : Level → Reader Tree) where
       else (if sees s.Break i then jump inside.looping (front_line i) st.Break i
       else (if sees s.Continue i then jump inside.looping (front_line i) st.Continue i
       else (if sees s.Pass i then jump true (front_line i) st.Pass i
-      else (if sees s.Load i then (skip >> load inside (front_line i)) i else valued (front_line i) i))))
+      else (if sees s.Load i then (skip >> load inside (front_line i)) i else valued (front_line i)
+      i))))
 
   unfoldable pub simple : Inside → Reader Statements
   simple inside = do
@@ -130,7 +134,8 @@ module _ (expressions : Level → Reader Tree) where
       pure body
 
     unfoldable pub suite : Inside → Reader Statements
-    suite inside = λ i. if sees s.Newline i then (skip >> block inside) i else nested part.Line inside i
+    suite inside = λ i. if sees s.Newline i then (skip >> block inside) i
+        else nested part.Line inside i
 
     -- behind `else`
     unfoldable pub last_branch : Inside → Reader Statements
@@ -148,7 +153,8 @@ module _ (expressions : Level → Reader Tree) where
       expect s.Colon
       chosen ← suite (in_branch inside)
       other ← otherwise inside
-      whole ← given (deep (on_line line (st.If test.0 chosen.0 other.0)) (max test.1 (max chosen.1 other.1)))
+      whole ← given (deep (on_line line (st.If test.0 chosen.0 other.0)) (max test.1 (max chosen.1
+          other.1)))
       pure (one whole)
 
     -- behind `for`
@@ -170,7 +176,8 @@ module _ (expressions : Level → Reader Tree) where
       checked (are_params params.0)
       expect s.Colon
       body ← suite in_function
-      whole ← given (deep (on_line line (st.Def (record { name = called; line = named_on }) params.0 body.0)) (max params.1 body.1))
+      whole ← given (deep (on_line line (st.Def (record { name = called; line = named_on }) params.0
+          body.0)) (max params.1 body.1))
       pure (one whole)
 
     -- behind `def`
@@ -198,7 +205,8 @@ stands zero what inside = refuse
 stands (suc nesting) what inside = of (reads nesting) (stands nesting) what inside
 
 unfoldable pub file_part : Reader Statements
-file_part = λ i. if sees s.Newline i then Some (([], 0), behind i) else stands 128 part.Statement at_top i
+file_part = λ i. if sees s.Newline i then Some (([], 0), behind i)
+    else stands 128 part.Statement at_top i
 
 abbrev pub has_more : List Symbol → Bool
 has_more [] = false

@@ -1,5 +1,6 @@
 -- The symbols of a text: its tokens, each with what its slice of the text says.
-use Rattle.std.specs.Prelude.{◌≡◌, ℕ, ◌-◌, if◌then◌else◌, List, [], ◌∷◌, map, take, drop, codes, bytes_eq}
+use Rattle.std.specs.Prelude.{◌≡◌, ℕ, ◌-◌, if◌then◌else◌, List, [], ◌∷◌, map, take, drop, codes}
+use Rattle.std.specs.Prelude.{bytes_eq}
 use Rattle.star_lex.specs.declared.token.Token.{Token}
 use Rattle.star_lex.specs.declared.token.TokenKind.{TokenKind}
 use Rattle.star_lex.specs.declared.token.TokenKind.TheVariants as token
@@ -16,23 +17,33 @@ sign_in (entry ∷ entries) word = if bytes_eq word entry.0 then entry.1 else si
 
 abbrev pub keywords : List (List ℕ × Sign)
 keywords =
-    (codes "and", s.And) ∷ (codes "break", s.Break) ∷ (codes "continue", s.Continue) ∷ (codes "def", s.Def)
+    (codes "and", s.And) ∷ (codes "break", s.Break) ∷ (codes "continue", s.Continue) ∷
+    (codes "def", s.Def)
     ∷ (codes "elif", s.Elif) ∷ (codes "else", s.Else) ∷ (codes "for", s.For) ∷ (codes "if", s.If)
-    ∷ (codes "in", s.In) ∷ (codes "lambda", s.Lambda) ∷ (codes "load", s.Load) ∷ (codes "not", s.Not)
+    ∷ (codes "in", s.In) ∷ (codes "lambda", s.Lambda) ∷ (codes "load", s.Load) ∷
+    (codes "not", s.Not)
     ∷ (codes "or", s.Or) ∷ (codes "pass", s.Pass) ∷ (codes "return", s.Return) ∷ []
 
 abbrev pub marks : List (List ℕ × Sign)
 marks =
     (codes "+", s.Plus) ∷ (codes "-", s.Minus) ∷ (codes "*", s.Star) ∷ (codes "//", s.Slashes)
-    ∷ (codes "%", s.Percent) ∷ (codes "**", s.StarStar) ∷ (codes "~", s.Tilde) ∷ (codes "&", s.Ampersand)
-    ∷ (codes "|", s.Bar) ∷ (codes "^", s.Caret) ∷ (codes "<<", s.ShiftLeft) ∷ (codes ">>", s.ShiftRight)
+    ∷ (codes "%", s.Percent) ∷ (codes "**", s.StarStar) ∷ (codes "~", s.Tilde) ∷
+    (codes "&", s.Ampersand)
+    ∷ (codes "|", s.Bar) ∷ (codes "^", s.Caret) ∷ (codes "<<", s.ShiftLeft) ∷
+    (codes ">>", s.ShiftRight)
     ∷ (codes ".", s.Dot) ∷ (codes ",", s.Comma) ∷ (codes "=", s.Assign) ∷ (codes ";", s.Semicolon)
-    ∷ (codes ":", s.Colon) ∷ (codes "(", s.LeftRound) ∷ (codes ")", s.RightRound) ∷ (codes "[", s.LeftSquare)
-    ∷ (codes "]", s.RightSquare) ∷ (codes "{", s.LeftCurly) ∷ (codes "}", s.RightCurly) ∷ (codes "<", s.Below)
-    ∷ (codes ">", s.Above) ∷ (codes ">=", s.AtLeast) ∷ (codes "<=", s.AtMost) ∷ (codes "==", s.Equal)
-    ∷ (codes "!=", s.Unequal) ∷ (codes "+=", s.PlusAssign) ∷ (codes "-=", s.MinusAssign) ∷ (codes "*=", s.StarAssign)
-    ∷ (codes "//=", s.SlashesAssign) ∷ (codes "%=", s.PercentAssign) ∷ (codes "&=", s.AmpersandAssign) ∷ (codes "|=", s.BarAssign)
-    ∷ (codes "^=", s.CaretAssign) ∷ (codes "<<=", s.ShiftLeftAssign) ∷ (codes ">>=", s.ShiftRightAssign) ∷ []
+    ∷ (codes ":", s.Colon) ∷ (codes "(", s.LeftRound) ∷ (codes ")", s.RightRound) ∷
+    (codes "[", s.LeftSquare)
+    ∷ (codes "]", s.RightSquare) ∷ (codes "{", s.LeftCurly) ∷ (codes "}", s.RightCurly) ∷
+    (codes "<", s.Below)
+    ∷ (codes ">", s.Above) ∷ (codes ">=", s.AtLeast) ∷ (codes "<=", s.AtMost) ∷
+    (codes "==", s.Equal)
+    ∷ (codes "!=", s.Unequal) ∷ (codes "+=", s.PlusAssign) ∷ (codes "-=", s.MinusAssign) ∷
+    (codes "*=", s.StarAssign)
+    ∷ (codes "//=", s.SlashesAssign) ∷ (codes "%=", s.PercentAssign) ∷
+    (codes "&=", s.AmpersandAssign) ∷ (codes "|=", s.BarAssign)
+    ∷ (codes "^=", s.CaretAssign) ∷ (codes "<<=", s.ShiftLeftAssign) ∷
+    (codes ">>=", s.ShiftRightAssign) ∷ []
 
 unfoldable pub keyword : List ℕ → Sign
 keyword = sign_in keywords
@@ -57,7 +68,11 @@ abbrev pub slice_of : List ℕ → Token → List ℕ
 slice_of text token = take (token.end - token.begin) (drop token.begin text)
 
 abbrev pub symbol_of : List ℕ → Token → Symbol
-symbol_of text token = record { kind = kind_over (slice_of text token) token.kind; line = token.line }
+symbol_of text token = record {
+  kind = kind_over
+      (slice_of text token) token.kind;
+  line = token.line;
+}
 
 abbrev pub symbols_of : List ℕ → List Token → List Symbol
 symbols_of text tokens = map (symbol_of text) tokens

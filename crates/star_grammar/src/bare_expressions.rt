@@ -1,4 +1,6 @@
-//! Expressions as they are written, with names that aren't resolved yet. Round brackets stay in the tree, since a place may not stand in them. `Items` and `Boxed` stand for lists and boxes, so that trees are compared by what they hold.
+//! Expressions as they are written, with names that aren't resolved yet. Round brackets stay in the
+//! tree, since a place may not stand in them. `Items` and `Boxed` stand for lists and boxes, so
+//! that trees are compared by what they hold.
 use bz_text::Txt;
 use sqlite_items::{Boxed, Items};
 use star_trees::{BinOp, UnOp};

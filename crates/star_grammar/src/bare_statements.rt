@@ -10,7 +10,8 @@ pub struct BareFile {
     pub body: Items<BareStmt>,
 }
 
-/// What is read at the front of a suite or a file: a statement, a line of small statements, or the rest of an `if` from an `elif` on.
+/// What is read at the front of a suite or a file: a statement, a line of small statements, or the
+/// rest of an `if` from an `elif` on.
 #[derive(Clone, Copy, Debug, PartialEq, Eq)]
 pub enum Part {
     Statement,

@@ -18,5 +18,8 @@ pub fn what_is_spelled_is_read()
 
 /// A text spells at most one file.
 pub fn one_tree()
-    ensures { (text : List ℕ) (tree other : BareFile) → Spelled text tree → Spelled text other → tree ≡ other }
+    ensures { (text : List ℕ) (tree other : BareFile)
+        → Spelled text tree
+        → Spelled text other
+        → tree ≡ other }
 {}

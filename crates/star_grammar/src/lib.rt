@@ -1,4 +1,5 @@
-//! The grammar of Starlark: its symbols, its trees as they are written, and which symbols spell which tree.
+//! The grammar of Starlark: its symbols, its trees as they are written, and which symbols spell
+//! which tree.
 #![tactic(auto)]
 
 pub mod bare_expressions;

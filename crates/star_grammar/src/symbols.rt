@@ -1,7 +1,8 @@
 //! The symbols of the grammar: tokens seen by what they are.
 use bz_text::Txt;
 
-/// What its kind alone tells: a keyword, a mark, a sign of the layout, or a word that stands nowhere.
+/// What its kind alone tells: a keyword, a mark, a sign of the layout, or a word that stands
+/// nowhere.
 #[derive(Clone, Copy, Debug, PartialEq, Eq)]
 pub enum Sign {
     And,

@@ -1,8 +1,10 @@
 -- What a byte of a text begins or belongs to: the Starlark specification, "Lexical elements".
-use Rattle.std.specs.Prelude.{ℕ, Bool, not, ◌||◌, ◌&&◌, ◌==◌, if◌then◌else◌, List, slice_index, Option, Some, None}
+use Rattle.std.specs.Prelude.{ℕ, Bool, not, ◌||◌, ◌&&◌, ◌==◌, if◌then◌else◌, List, slice_index}
+use Rattle.std.specs.Prelude.{Option, Some, None}
 use Rattle.std.specs.Char.{is_ascii_alphabetic, is_ascii_digit}
 use Rattle.star_lex.specs.declared.bytes.Class.{Class}
-use Rattle.star_lex.specs.declared.bytes.Class.TheVariants.{Space, Letter, Digit, Quote, Hash, Backslash, Feed, Other}
+use Rattle.star_lex.specs.declared.bytes.Class.TheVariants.{Space, Letter, Digit, Quote, Hash}
+use Rattle.star_lex.specs.declared.bytes.Class.TheVariants.{Backslash, Feed, Other}
 
 -- the class of a byte; `_` is a letter, and a byte beyond ASCII is of none of the named classes
 abbrev pub class_of : ℕ → Class

@@ -1,8 +1,11 @@
 -- Integers: the Starlark specification, "Lexical elements".
-use Rattle.std.specs.Prelude.{ℕ, ◌+◌, ◌-◌, ◌*◌, Bool, not, ◌||◌, ◌&&◌, ◌==◌, if◌then◌else◌, List, [], ◌∷◌, length, drop, slice_index, Option, Some, None, option_and_then, nat_lt, nat_le}
+use Rattle.std.specs.Prelude.{ℕ, ◌+◌, ◌-◌, ◌*◌, Bool, not, ◌||◌, ◌&&◌, ◌==◌, if◌then◌else◌, List}
+use Rattle.std.specs.Prelude.{[], ◌∷◌, length, drop, slice_index, Option, Some, None}
+use Rattle.std.specs.Prelude.{option_and_then, nat_lt, nat_le}
 use Rattle.std.specs.Char.{is_ascii_digit}
 
--- what a digit counts, a letter in either case from 10 on; any other byte is no digit of a base up to 36
+-- what a digit counts, a letter in either case from 10 on; any other byte is no digit of a base up
+-- to 36
 abbrev pub digit : ℕ → ℕ
 digit b =
     if nat_le 48 b && nat_le b 57 then b - 48
@@ -12,7 +15,8 @@ digit b =
 -- the number that stands in a base before these digits, and then with them
 abbrev pub with_digits : ℕ → ℕ → List ℕ → Option ℕ
 with_digits base value [] = Some value
-with_digits base value (b ∷ more) = if nat_lt (digit b) base then with_digits base (value * base + digit b) more else None
+with_digits base value (b ∷ more) = if nat_lt (digit b) base then with_digits base
+    (value * base + digit b) more else None
 
 -- the largest integer that a text may have
 abbrev pub last_integer : ℕ
@@ -32,7 +36,8 @@ number base (b ∷ more) = within_last base 0 (b ∷ more)
 
 -- the letter behind a leading 0
 abbrev pub is_hexadecimal : List ℕ → Bool
-is_hexadecimal word = slice_index word 0 == 48 && (slice_index word 1 == 120 || slice_index word 1 == 88)
+is_hexadecimal word = slice_index word 0 == 48
+    && (slice_index word 1 == 120 || slice_index word 1 == 88)
 
 abbrev pub is_octal : List ℕ → Bool
 is_octal word = slice_index word 0 == 48 && (slice_index word 1 == 111 || slice_index word 1 == 79)
@@ -41,7 +46,8 @@ is_octal word = slice_index word 0 == 48 && (slice_index word 1 == 111 || slice_
 abbrev pub has_leading_zero : List ℕ → Bool
 has_leading_zero word = slice_index word 0 == 48 && not (length word == 1)
 
--- the value of an integer: `0`, a decimal without a leading zero, hexadecimal behind `0x`, octal behind `0o`
+-- the value of an integer: `0`, a decimal without a leading zero, hexadecimal behind `0x`, octal
+-- behind `0o`
 unfoldable pub integer_of : List ℕ → Option ℕ
 integer_of word =
     if is_hexadecimal word then number 16 (drop 2 word)

@@ -1,8 +1,13 @@
--- Lines, indentation and brackets: how lexemes, one after another, give tokens and their places. The Starlark specification, "Lexical elements"; the Python language reference, 2.1 "Line structure".
-use Rattle.std.specs.Prelude.{◌≡◌, ℕ, ◌+◌, ◌-◌, Bool, true, false, ◌||◌, ◌==◌, if◌then◌else◌, List, [], ◌∷◌, ◌++◌, length, map, slice_index, slice_get, count_by, Option, Some, None, nat_lt}
+-- Lines, indentation and brackets: how lexemes, one after another, give tokens and their places.
+-- The Starlark specification, "Lexical elements"; the Python language reference, 2.1 "Line
+-- structure".
+use Rattle.std.specs.Prelude.{◌≡◌, ℕ, ◌+◌, ◌-◌, Bool, true, false, ◌||◌, ◌==◌, if◌then◌else◌, List}
+use Rattle.std.specs.Prelude.{[], ◌∷◌, ◌++◌, length, map, slice_index, slice_get, count_by, Option}
+use Rattle.std.specs.Prelude.{Some, None, nat_lt}
 use Rattle.std.specs.List.{list_any}
 use Rattle.star_lex.specs.declared.lexemes.Lexeme.{Lexeme}
-use Rattle.star_lex.specs.declared.lexemes.Lexeme.TheVariants.{Whitespace, Comment, LineEnd, LineContinuation, Shown}
+use Rattle.star_lex.specs.declared.lexemes.Lexeme.TheVariants.{Whitespace, Comment, LineEnd}
+use Rattle.star_lex.specs.declared.lexemes.Lexeme.TheVariants.{LineContinuation, Shown}
 use Rattle.star_lex.specs.declared.token.Token.{Token}
 use Rattle.star_lex.specs.declared.token.TokenKind.{TokenKind}
 use Rattle.star_lex.specs.declared.token.TokenKind.TheVariants.{Newline, Indent, Outdent}
@@ -26,7 +31,8 @@ abbrev pub top : List ℕ → ℕ
 top [] = 0
 top (level ∷ levels) = level
 
--- the levels that stay open at a width, each level above it giving an outdent; the width must be that of an open level
+-- the levels that stay open at a width, each level above it giving an outdent; the width must be
+-- that of an open level
 abbrev pub levels_at_width : Token → ℕ → List ℕ → List Token → Option (List ℕ × List Token)
 levels_at_width out width [] tokens = if width == 0 then Some ([], tokens) else None
 levels_at_width out width (level ∷ levels) tokens =
@@ -43,7 +49,8 @@ with_levels s (Some parts) = Some (with_parts s parts)
 -- a deeper indentation opens a level, another returns to one that is open
 abbrev pub after_width : Layout → Option Layout
 after_width s =
-    if nat_lt (top s.levels) s.width then Some (record s { levels = s.width ∷ s.levels; tokens = s.tokens ++ here Indent s ∷ [] })
+    if nat_lt (top s.levels) s.width then Some
+    (record s { levels = s.width ∷ s.levels; tokens = s.tokens ++ here Indent s ∷ [] })
     else with_levels s (levels_at_width (here Outdent s) s.width s.levels s.tokens)
 
 -- before a line's first token: its indentation has no tab
@@ -70,11 +77,20 @@ nested b depth = if opens b then depth + 1 else (if shuts b then depth - 1 else 
 
 -- the same with a token
 abbrev pub with_shown : TokenKind → List ℕ → Layout → Layout
-with_shown kind front s = record s { tokens = s.tokens ++ over kind front s ∷ []; phase = Begun; depth = nested (slice_index front 0) s.depth }
+with_shown kind front s = record s {
+  tokens = s.tokens
+      ++ over kind front s ∷ [];
+  phase = Begun;
+  depth = nested (slice_index front 0) s.depth;
+}
 
 -- blanks at the beginning of a line are its indentation
 abbrev pub with_whitespace_in : Phase → List ℕ → Layout → Layout
-with_whitespace_in Fresh front s = record s { width = length front; tabbed = list_any (λ b. b == 9) front }
+with_whitespace_in Fresh front s = record s {
+  width = length front;
+  tabbed = list_any
+      (λ b. b == 9) front;
+}
 with_whitespace_in Continued front s = s
 with_whitespace_in Begun front s = s
 
@@ -91,7 +107,8 @@ next_line s = record s { phase = Fresh; width = 0; tabbed = false }
 abbrev pub with_line_end_in : Phase → List ℕ → Layout → Layout
 with_line_end_in Fresh front s = next_line s
 with_line_end_in Continued front s = next_line s
-with_line_end_in Begun front s = next_line (record s { tokens = s.tokens ++ over Newline front s ∷ [] })
+with_line_end_in Begun front s = next_line
+    (record s { tokens = s.tokens ++ over Newline front s ∷ [] })
 
 -- within brackets it gives nothing
 abbrev pub with_line_end : List ℕ → Layout → Layout
@@ -105,7 +122,11 @@ pub record IsPlaced (s t : Layout) : Type 0 where
 
 -- behind these bytes; each line feed begins a line
 abbrev pub behind_bytes : List ℕ → Layout → Layout
-behind_bytes front s = record s { at = s.at + length front; line = s.line + count_by (λ b. b == 10) front }
+behind_bytes front s = record s {
+  at = s.at + length front;
+  line = s.line + count_by
+      (λ b. b == 10) front;
+}
 
 abbrev pub after_shown : TokenKind → List ℕ → Option Layout → Option Layout
 after_shown kind front None = None
@@ -130,7 +151,8 @@ lacks_newline (Some token) = if is_newline token.kind then false else true
 
 -- the last newline, where the text lacks it
 abbrev pub with_last_newline : Layout → List Token
-with_last_newline s = if lacks_newline (slice_get s.tokens (length s.tokens - 1)) then s.tokens ++ here Newline s ∷ [] else s.tokens
+with_last_newline s = if lacks_newline (slice_get s.tokens (length s.tokens - 1)) then s.tokens
+    ++ here Newline s ∷ [] else s.tokens
 
 -- the tokens at the text's end: each level that is open has its outdent
 unfoldable pub tokens_at_end : Layout → List Token
@@ -138,4 +160,13 @@ tokens_at_end s = with_last_newline s ++ map (λ _. here Outdent s) s.levels
 
 -- before the first lexeme
 abbrev pub start : Layout
-start = record { tokens = []; levels = []; depth = 0; at = 0; line = 1; width = 0; tabbed = false; phase = Fresh }
+start = record {
+  tokens = [];
+  levels = [];
+  depth = 0;
+  at = 0;
+  line = 1;
+  width = 0;
+  tabbed = false;
+  phase = Fresh;
+}

@@ -1,10 +1,13 @@
 -- The lexemes of a text, each as long as it can be: the Starlark specification, "Lexical elements".
-use Rattle.std.specs.Prelude.{◌≡◌, ℕ, ◌+◌, Bool, true, false, List, take, drop, slice_index, Some, pos}
+use Rattle.std.specs.Prelude.{◌≡◌, ℕ, ◌+◌, Bool, true, false, List, take, drop, slice_index, Some}
+use Rattle.std.specs.Prelude.{pos}
 use Rattle.star_lex.specs.declared.bytes.Class.{Class}
-use Rattle.star_lex.specs.declared.bytes.Class.TheVariants.{Space, Letter, Digit, Quote, Hash, Backslash, Feed, Other}
+use Rattle.star_lex.specs.declared.bytes.Class.TheVariants.{Space, Letter, Digit, Quote, Hash}
+use Rattle.star_lex.specs.declared.bytes.Class.TheVariants.{Backslash, Feed, Other}
 use Rattle.star_lex.specs.declared.runs.Within.TheVariants.{Blank, Word, RestOfLine}
 use Rattle.star_lex.specs.declared.lexemes.Lexeme.{Lexeme}
-use Rattle.star_lex.specs.declared.lexemes.Lexeme.TheVariants.{Whitespace, Comment, LineEnd, LineContinuation, Shown}
+use Rattle.star_lex.specs.declared.lexemes.Lexeme.TheVariants.{Whitespace, Comment, LineEnd}
+use Rattle.star_lex.specs.declared.lexemes.Lexeme.TheVariants.{LineContinuation, Shown}
 use Rattle.star_lex.specs.declared.token.TokenKind.TheVariants.{Int, Text, Mark}
 use Rattle.star_lex.specs.Bytes.{class_of, line_end}
 use Rattle.star_lex.specs.Runs.{belongs, IsRun}

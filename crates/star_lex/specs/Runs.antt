@@ -1,5 +1,6 @@
 -- Longest runs of bytes of one kind.
-use Rattle.std.specs.Prelude.{◌≡◌, ℕ, ◌≤◌, Bool, true, false, ◌&&◌, ◌==◌, not, List, length, take, slice_index}
+use Rattle.std.specs.Prelude.{◌≡◌, ℕ, ◌≤◌, Bool, true, false, ◌&&◌, ◌==◌, not, List, length, take}
+use Rattle.std.specs.Prelude.{slice_index}
 use Rattle.std.specs.List.{list_all}
 use Rattle.star_lex.specs.declared.bytes.Class.{Class}
 use Rattle.star_lex.specs.declared.bytes.Class.TheVariants.{Space, Letter, Digit}
@@ -16,7 +17,8 @@ is_word_class Letter = true
 is_word_class Digit = true
 is_word_class _ = false
 
--- blanks, the bytes of a word or number, and what a comment holds: all but a line's end and what stands nowhere
+-- blanks, the bytes of a word or number, and what a comment holds: all but a line's end and what
+-- stands nowhere
 abbrev pub belongs : Within → ℕ → Bool
 belongs Blank b = is_blank_class (class_of b)
 belongs Word b = is_word_class (class_of b)

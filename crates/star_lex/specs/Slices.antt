@@ -13,13 +13,18 @@ is_layout Indent = true
 is_layout Outdent = true
 is_layout _ = false
 
--- Between its places a token has what it says: the lexeme of its kind and value, a line's end for a newline, or nothing.
+-- Between its places a token has what it says: the lexeme of its kind and value, a line's end for a
+-- newline, or nothing.
 pub data IsSlice (text : List ℕ) (token : Token) : Type 0 where
-  read : IsLexeme (drop token.begin text) (Shown token.kind) (token.end - token.begin) → IsSlice text token
-  line_end : token.kind ≡ Newline → IsLexeme (drop token.begin text) LineEnd (token.end - token.begin) → IsSlice text token
+  read : IsLexeme (drop token.begin text) (Shown token.kind) (token.end - token.begin)
+      → IsSlice text token
+  line_end : token.kind ≡ Newline
+      → IsLexeme (drop token.begin text) LineEnd (token.end - token.begin)
+      → IsSlice text token
   empty : is_layout token.kind ≡ true → token.begin ≡ token.end → IsSlice text token
 
 -- the tokens stand one behind another between two places, each over its own bytes
 abbrev pub AreSlices : List ℕ → ℕ → List Token → ℕ → Type 0
 AreSlices text from [] to = from ≤ to
-AreSlices text from (token ∷ tokens) to = (from ≤ token.begin) × (token.begin ≤ token.end) × IsSlice text token × AreSlices text token.end tokens to
+AreSlices text from (token ∷ tokens) to = (from ≤ token.begin) × (token.begin ≤ token.end)
+    × IsSlice text token × AreSlices text token.end tokens to

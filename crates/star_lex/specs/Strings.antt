@@ -1,5 +1,7 @@
 -- Strings and their escapes: the Starlark specification, "Lexical elements".
-use Rattle.std.specs.Prelude.{◌≡◌, ℕ, ◌+◌, Bool, true, false, not, ◌||◌, ◌&&◌, ◌==◌, if◌then◌else◌, List, [], ◌∷◌, ◌++◌, length, take, drop, slice_index, Option, Some, None, option_and_then, nat_lt, nat_le}
+use Rattle.std.specs.Prelude.{◌≡◌, ℕ, ◌+◌, Bool, true, false, not, ◌||◌, ◌&&◌, ◌==◌, if◌then◌else◌}
+use Rattle.std.specs.Prelude.{List, [], ◌∷◌, ◌++◌, length, take, drop, slice_index, Option, Some}
+use Rattle.std.specs.Prelude.{None, option_and_then, nat_lt, nat_le}
 use Rattle.std.specs.Char.{encode_utf8}
 use Rattle.star_lex.specs.declared.strings.Style.{Style}
 use Rattle.star_lex.specs.declared.strings.Meaning.{Meaning}
@@ -7,7 +9,8 @@ use Rattle.star_lex.specs.declared.strings.Meaning.TheVariants.{Nothing, Byte, K
 use Rattle.star_lex.specs.Bytes.{is_visible, line_end}
 use Rattle.star_lex.specs.Integers.{number}
 
--- what an item of a string puts into its value: nothing, a byte, a byte behind a backslash that stays, or a character
+-- what an item of a string puts into its value: nothing, a byte, a byte behind a backslash that
+-- stays, or a character
 abbrev pub bytes_of : Meaning → List ℕ
 bytes_of Nothing = []
 bytes_of (Byte b) = b ∷ []
@@ -16,7 +19,8 @@ bytes_of (Scalar c) = encode_utf8 c
 
 -- the number of this many digits at the front
 abbrev pub front_number : ℕ → ℕ → List ℕ → Option ℕ
-front_number base size text = if nat_le size (length text) then number base (take size text) else None
+front_number base size text = if nat_le size (length text) then number base (take size text)
+    else None
 
 -- an escape by its number, which ends this far behind the backslash, is a character up to 127
 abbrev pub ascii : ℕ → ℕ → Option (Meaning × ℕ)
@@ -55,8 +59,10 @@ simple_escape b =
 unfoldable pub numbered_escape : List ℕ → Option (Meaning × ℕ)
 numbered_escape text =
     if slice_index text 0 == 120 then option_and_then (ascii 4) (front_number 16 2 (drop 1 text))
-    else (if slice_index text 0 == 117 then option_and_then (scalar 6) (front_number 16 4 (drop 1 text))
-    else (if slice_index text 0 == 85 then option_and_then (scalar 10) (front_number 16 8 (drop 1 text))
+    else (if slice_index text 0 == 117 then option_and_then (scalar 6) (front_number 16 4 (drop 1
+    text))
+    else (if slice_index text 0 == 85 then option_and_then (scalar 10) (front_number 16 8 (drop 1
+    text))
     else option_and_then (ascii (1 + octal_digits text)) (front_number 8 (octal_digits text) text)))
 
 abbrev pub one_letter : Option ℕ → List ℕ → Option (Meaning × ℕ)
@@ -91,16 +97,19 @@ plain triple text = plain_byte (line_end text) triple (slice_index text 0)
 -- the item at the front of what is left of a string, and its length
 unfoldable pub item : Style → List ℕ → Option (Meaning × ℕ)
 item style text =
-    if slice_index text 0 == 92 then (if style.raw then raw_pair (drop 1 text) else escape (drop 1 text))
+    if slice_index text 0 == 92 then
+    (if style.raw then raw_pair (drop 1 text) else escape (drop 1 text))
     else plain style.triple text
 
 -- the next three bytes are this quote
 abbrev pub is_tripled : ℕ → List ℕ → Bool
-is_tripled quote text = slice_index text 0 == quote && (slice_index text 1 == quote && slice_index text 2 == quote)
+is_tripled quote text = slice_index text 0 == quote
+    && (slice_index text 1 == quote && slice_index text 2 == quote)
 
 -- the string's end stands here
 unfoldable pub closes : Style → List ℕ → Bool
-closes style text = if style.triple then is_tripled style.quote text else slice_index text 0 == style.quote
+closes style text = if style.triple then is_tripled style.quote text
+    else slice_index text 0 == style.quote
 
 -- how many quotes stand at either end
 abbrev pub quotes : Style → ℕ
@@ -124,10 +133,15 @@ style_of text = record {
   raw = is_raw text;
 }
 
--- Items, one after another, up to the quotes at the end: the text behind the first quotes, the value, and how long it is with the last quotes.
+-- Items, one after another, up to the quotes at the end: the text behind the first quotes, the
+-- value, and how long it is with the last quotes.
 pub data Contents (style : Style) : List ℕ → List ℕ → ℕ → Type 0 where
   ends : (text : List ℕ) → closes style text ≡ true → Contents style text [] (quotes style)
-  goes : (text value : List ℕ) (meaning : Meaning) (n m : ℕ) → closes style text ≡ false → item style text ≡ Some (meaning, n) → Contents style (drop n text) value m → Contents style text (bytes_of meaning ++ value) (n + m)
+  goes : (text value : List ℕ) (meaning : Meaning) (n m : ℕ)
+      → closes style text ≡ false
+      → item style text ≡ Some (meaning, n)
+      → Contents style (drop n text) value m
+      → Contents style text (bytes_of meaning ++ value) (n + m)
 
 -- how long what stands before the contents is
 abbrev pub opening : List ℕ → ℕ

@@ -18,7 +18,10 @@ pub record IsStep (s : Layout) (text : List ℕ) (t : Layout) (n : ℕ) : Type 0
 -- lexeme after lexeme up to the text's end
 pub data LexesFrom : Layout → List ℕ → List Token → Type 0 where
   ends : (s : Layout) → LexesFrom s [] (tokens_at_end s)
-  goes : (s t : Layout) (text : List ℕ) (n : ℕ) (tokens : List Token) → IsStep s text t n → LexesFrom t (drop n text) tokens → LexesFrom s text tokens
+  goes : (s t : Layout) (text : List ℕ) (n : ℕ) (tokens : List Token)
+      → IsStep s text t n
+      → LexesFrom t (drop n text) tokens
+      → LexesFrom s text tokens
 
 -- the text has these tokens
 unfoldable pub Lexes : List ℕ → List Token → Type 0

@@ -5,10 +5,14 @@ use Rattle.star_lex.specs.declared.token.TokenKind.{TokenKind}
 use Rattle.star_lex.specs.declared.token.TokenKind.TheVariants.{Identifier, Keyword, Reserved}
 
 abbrev pub keywords : List (List ℕ)
-keywords = codes "and" ∷ codes "break" ∷ codes "continue" ∷ codes "def" ∷ codes "elif" ∷ codes "else" ∷ codes "for" ∷ codes "if" ∷ codes "in" ∷ codes "lambda" ∷ codes "load" ∷ codes "not" ∷ codes "or" ∷ codes "pass" ∷ codes "return" ∷ []
+keywords = codes "and" ∷ codes "break" ∷ codes "continue" ∷ codes "def" ∷ codes "elif" ∷ codes
+    "else" ∷ codes "for" ∷ codes "if" ∷ codes "in" ∷ codes "lambda" ∷ codes "load" ∷ codes "not" ∷
+    codes "or" ∷ codes "pass" ∷ codes "return" ∷ []
 
 abbrev pub reserved_words : List (List ℕ)
-reserved_words = codes "as" ∷ codes "assert" ∷ codes "class" ∷ codes "del" ∷ codes "except" ∷ codes "finally" ∷ codes "from" ∷ codes "global" ∷ codes "import" ∷ codes "is" ∷ codes "nonlocal" ∷ codes "raise" ∷ codes "try" ∷ codes "while" ∷ codes "with" ∷ codes "yield" ∷ []
+reserved_words = codes "as" ∷ codes "assert" ∷ codes "class" ∷ codes "del" ∷ codes "except" ∷ codes
+    "finally" ∷ codes "from" ∷ codes "global" ∷ codes "import" ∷ codes "is" ∷ codes "nonlocal" ∷
+    codes "raise" ∷ codes "try" ∷ codes "while" ∷ codes "with" ∷ codes "yield" ∷ []
 
 abbrev pub is_keyword : List ℕ → Bool
 is_keyword word = list_any (bytes_eq word) keywords

@@ -1,6 +1,7 @@
 //! Integers.
 ghost use Rattle.std.specs.Prelude.{◌≡◌, ◌≤◌, ◌<◌, ◌+◌, ◌*◌, drop, IfSome, IfNone};
-ghost use Rattle.star_lex.specs.Integers.{begins_fraction, digit, has_leading_zero, integer_of, is_hexadecimal, is_octal, last_integer, number};
+ghost use Rattle.star_lex.specs.Integers.{begins_fraction, digit, has_leading_zero, integer_of};
+ghost use Rattle.star_lex.specs.Integers.{is_hexadecimal, is_octal, last_integer, number};
 
 use crate::bytes::byte_at;
 

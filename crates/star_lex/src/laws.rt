@@ -5,5 +5,8 @@ ghost use Rattle.star_lex.specs.declared.token.Token.{Token};
 
 /// A text has at most one token list.
 pub fn one_token_list()
-    ensures { (text : List ℕ) (tokens others : List Token) → Lexes text tokens → Lexes text others → tokens ≡ others }
+    ensures { (text : List ℕ) (tokens others : List Token)
+        → Lexes text tokens
+        → Lexes text others
+        → tokens ≡ others }
 {}

@@ -1,9 +1,18 @@
-//! Lines, indentation and brackets. A layout takes one lexeme after another and keeps the tokens so far, where it stands, the open levels and brackets, and what it knows of the line.
-ghost use Rattle.std.specs.Prelude.{◌≡◌, ◌==◌, ◌≤◌, ◌<◌, ◌+◌, ◌^◌, ◌++◌, [], ◌∷◌, length, map, slice_index, slice_get, count_by, IfOk, OnOk, Some, None, ◌-◌};
+//! Lines, indentation and brackets. A layout takes one lexeme after another and keeps the tokens so
+//! far, where it stands, the open levels and brackets, and what it knows of the line.
+ghost use Rattle.std.specs.Prelude.{◌≡◌, ◌==◌, ◌≤◌, ◌<◌, ◌+◌, ◌^◌, ◌++◌, [], ◌∷◌, length, map};
+ghost use Rattle.std.specs.Prelude.{slice_index, slice_get, count_by, IfOk, OnOk, Some, None, ◌-◌};
 ghost use Rattle.std.specs.List.{list_any};
 ghost use Rattle.star_lex.specs.Answers.{Answers};
-ghost use Rattle.star_lex.specs.Layouts.{after_indentation, with_levels, tokens_at_end, IsPlaced, with_whitespace_in, here, after_width, is_newline, with_continuation_in, lacks_newline, layout_after, with_line_end, with_line_end_in, after_margin, behind_bytes, nested, with_last_newline, next_line, levels_at_width, over, with_shown, after_shown, start, with_token};
-ghost use Rattle.star_lex.specs.declared.lexemes.Lexeme.TheVariants.{Whitespace, LineContinuation, LineEnd, Comment, Shown};
+ghost use Rattle.star_lex.specs.Layouts.{after_indentation, with_levels, tokens_at_end, IsPlaced};
+ghost use Rattle.star_lex.specs.Layouts.{with_whitespace_in, here, after_width, is_newline};
+ghost use Rattle.star_lex.specs.Layouts.{with_continuation_in, lacks_newline, layout_after};
+ghost use Rattle.star_lex.specs.Layouts.{with_line_end, with_line_end_in, after_margin};
+ghost use Rattle.star_lex.specs.Layouts.{behind_bytes, nested, with_last_newline, next_line};
+ghost use Rattle.star_lex.specs.Layouts.{levels_at_width, over, with_shown, after_shown, start};
+ghost use Rattle.star_lex.specs.Layouts.{with_token};
+ghost use Rattle.star_lex.specs.declared.lexemes.Lexeme.TheVariants.{Whitespace, LineContinuation};
+ghost use Rattle.star_lex.specs.declared.lexemes.Lexeme.TheVariants.{LineEnd, Comment, Shown};
 ghost use Rattle.star_lex.specs.declared.token.TokenKind.TheVariants.{Indent, Newline, Outdent};
 
 use crate::bytes::byte_at;
@@ -13,7 +22,8 @@ use crate::token::{NoLexeme, Token, TokenKind};
 use bz_text::{May, Mem, Miss, OutOfMemory, Seq};
 use std::alloc::Global;
 
-/// How far a line is: nothing of it is read but blanks, or a backslash has joined it to the one before, or it has a token.
+/// How far a line is: nothing of it is read but blanks, or a backslash has joined it to the one
+/// before, or it has a token.
 #[derive(Clone, Copy, Debug, PartialEq, Eq)]
 pub(crate) enum Phase {
     Fresh,
@@ -21,7 +31,8 @@ pub(crate) enum Phase {
     Begun,
 }
 
-/// The tokens so far and what the next lexeme's meaning hangs on. `width` and `tabbed` tell of the blanks at the line's beginning.
+/// The tokens so far and what the next lexeme's meaning hangs on. `width` and `tabbed` tell of the
+/// blanks at the line's beginning.
 #[derive(Debug, Drop)]
 pub(crate) struct Layout {
     pub(crate) tokens: Seq<Token>,
@@ -125,7 +136,11 @@ impl Layout {
 
     /// Closes the levels above the line's width.
     fn outdent(&mut self) -> May<(), NoLexeme>
-        ensures exact { Answers (λ _. with_levels self.old (levels_at_width (here Outdent self.old) self.old.width self.old.levels self.old.tokens) ≡ Some self.new) (with_levels self.old (levels_at_width (here Outdent self.old) self.old.width self.old.levels self.old.tokens) ≡ None) result }
+        ensures exact { Answers (λ _. with_levels self.old (levels_at_width (here Outdent self.old)
+            self.old.width self.old.levels self.old.tokens) ≡ Some self.new)
+            (with_levels self.old
+            (levels_at_width (here Outdent self.old) self.old.width self.old.levels
+            self.old.tokens) ≡ None) result }
         ensures placed { OnOk result (IsPlaced self.old self.new) }
     {
         'levels: while self.width < self.levels.top() {
@@ -141,7 +156,10 @@ impl Layout {
     }
 
     fn indent(&mut self) -> Mem<()>
-        ensures { OnOk result (self.new ≡ record self.old { levels = self.old.width ∷ self.old.levels; tokens = self.old.tokens ++ here Indent self.old ∷ [] }) }
+        ensures { OnOk result (self.new ≡ record self.old {
+          levels = self.old.width ∷ self.old.levels;
+          tokens = self.old.tokens ++ here Indent self.old ∷ [];
+        }) }
     {
         let token = self.here(TokenKind::Indent);
         self.push(token)?;
@@ -162,7 +180,8 @@ impl Layout {
     }
 
     fn read_margin(&mut self) -> May<(), NoLexeme>
-        ensures exact { Answers (λ _. after_margin self.old ≡ Some self.new) (after_margin self.old ≡ None) result }
+        ensures exact { Answers (λ _. after_margin self.old ≡ Some self.new)
+            (after_margin self.old ≡ None) result }
         ensures placed { OnOk result (IsPlaced self.old self.new) }
     {
         if self.tabbed {
@@ -174,7 +193,8 @@ impl Layout {
     /// Reads the indentation before a line's first token.
     #[tactic(auto, unfolding(crate::specs::Layouts::after_indentation))]
     fn begin(&mut self) -> May<(), NoLexeme>
-        ensures exact { Answers (λ _. after_indentation self.old ≡ Some self.new) (after_indentation self.old ≡ None) result }
+        ensures exact { Answers (λ _. after_indentation self.old ≡ Some self.new)
+            (after_indentation self.old ≡ None) result }
         ensures placed { OnOk result (IsPlaced self.old self.new) }
     {
         match self.phase {
@@ -311,7 +331,8 @@ impl Layout {
         requires room { self.old.at + length front.now < 2 ^ 63 }
         requires lined { self.old.line ≤ self.old.at + 1 }
         requires nested { self.old.depth ≤ self.old.at }
-        ensures { Answers (λ _. after_shown kind front.now (after_indentation self.old) ≡ Some self.new) (after_shown kind front.now (after_indentation self.old) ≡ None) result }
+        ensures { Answers (λ _. after_shown kind front.now (after_indentation self.old) ≡ Some self.new)
+            (after_shown kind front.now (after_indentation self.old) ≡ None) result }
     {
         match self.begin() {
             Ok(()) => Ok(self.lay_shown(kind, front)?),
@@ -325,7 +346,8 @@ impl Layout {
         requires room { self.old.at + length front.now < 2 ^ 63 }
         requires lined { self.old.line ≤ self.old.at + 1 }
         requires nested { self.old.depth ≤ self.old.at }
-        ensures { Answers (λ _. layout_after lexeme front.now self.old ≡ Some self.new) (layout_after lexeme front.now self.old ≡ None) result }
+        ensures { Answers (λ _. layout_after lexeme front.now self.old ≡ Some self.new)
+            (layout_after lexeme front.now self.old ≡ None) result }
     {
         match lexeme {
             Lexeme::Whitespace => self.lay_whitespace(front),
@@ -357,7 +379,8 @@ impl Layout {
     }
 
     fn close_levels(&mut self) -> Mem<()>
-        ensures { OnOk result (self.new.tokens ≡ self.old.tokens ++ map (λ _. here Outdent self.old) self.old.levels) }
+        ensures { OnOk result (self.new.tokens ≡ self.old.tokens ++ map (λ _. here Outdent self.old)
+            self.old.levels) }
     {
         'levels: while !self.levels.are_closed() {
             let token = self.here(TokenKind::Outdent);

@@ -6,7 +6,8 @@ use bz_text::Mem;
 use std::alloc::Global;
 use std::marker::Model;
 
-/// Open levels. Contracts see them as a list, the innermost first; the outermost, no indentation, isn't kept.
+/// Open levels. Contracts see them as a list, the innermost first; the outermost, no indentation,
+/// isn't kept.
 #[derive(Debug, Drop)]
 pub(crate) struct Levels {
     outer_first: Vec<u64>,

@@ -3,7 +3,9 @@ ghost use Rattle.std.specs.Prelude.{◌≡◌, ◌<◌, ◌≤◌, ℕ, pos, len
 ghost use Rattle.std.specs.Str.{IsUtf8};
 ghost use Rattle.star_lex.specs.Answers.{Answers};
 ghost use Rattle.star_lex.specs.Bytes.{class_of};
-ghost use Rattle.star_lex.specs.Lexemes.{IsWhitespace, IsInteger, IsLineContinuation, IsLettered, IsLineEnd, IsOfClass, IsLexeme, IsPunctuation, IsQuoted, IsComment, IsWord};
+ghost use Rattle.star_lex.specs.Lexemes.{IsWhitespace, IsInteger, IsLineContinuation, IsLettered};
+ghost use Rattle.star_lex.specs.Lexemes.{IsLineEnd, IsOfClass, IsLexeme, IsPunctuation, IsQuoted};
+ghost use Rattle.star_lex.specs.Lexemes.{IsComment, IsWord};
 ghost use Rattle.star_lex.specs.Strings.{is_raw, prefix};
 ghost use Rattle.star_lex.specs.Integers.{last_integer};
 ghost use Rattle.star_lex.specs.declared.lexemes.Lexeme.{Lexeme};
@@ -20,7 +22,8 @@ use crate::words::word_kind;
 use bz_text::{May, Miss};
 use std::alloc::Global;
 
-/// A lexeme of a text: whitespace, a comment, a line's end, a line continuation, or what gives a token.
+/// A lexeme of a text: whitespace, a comment, a line's end, a line continuation, or what gives a
+/// token.
 #[derive(Debug, Drop)]
 pub(crate) enum Lexeme {
     Whitespace,
@@ -57,7 +60,8 @@ fn integer_lexeme(value: u64) -> Lexeme
 }
 
 fn integer(text: &[u8]) -> May<(Lexeme, usize), NoLexeme>
-    ensures { Answers (λ found. IsInteger text.now found.0 found.1) ((lexeme : Lexeme) (n : ℕ) → IsInteger text.now lexeme n → ⊥) result }
+    ensures { Answers (λ found. IsInteger text.now found.0 found.1)
+        ((lexeme : Lexeme) (n : ℕ) → IsInteger text.now lexeme n → ⊥) result }
 {
     let size = run_length(text, Within::Word);
     let (front, rest) = text.split_at(size);
@@ -74,7 +78,8 @@ fn quoted(alloc: Global, text: &[u8]) -> May<(Lexeme, usize), NoLexeme>
     requires some { 0 < slice_index text.now (prefix text.now) }
     requires ascii { slice_index text.now (prefix text.now) < 128 }
     requires utf8 { IsUtf8 text.now }
-    ensures { Answers (λ found. IsQuoted text.now found.0 found.1) ((lexeme : Lexeme) (n : ℕ) → IsQuoted text.now lexeme n → ⊥) result }
+    ensures { Answers (λ found. IsQuoted text.now found.0 found.1)
+        ((lexeme : Lexeme) (n : ℕ) → IsQuoted text.now lexeme n → ⊥) result }
 {
     match string(alloc, text) {
         Ok((value, size)) => Ok((Lexeme::Shown(TokenKind::Text(value)), size)),
@@ -85,7 +90,8 @@ fn quoted(alloc: Global, text: &[u8]) -> May<(Lexeme, usize), NoLexeme>
 
 fn lettered(alloc: Global, text: &[u8]) -> May<(Lexeme, usize), NoLexeme>
     requires { IsUtf8 text.now }
-    ensures { Answers (λ found. IsLettered (is_raw text.now) text.now found.0 found.1) ((lexeme : Lexeme) (n : ℕ) → IsLettered (is_raw text.now) text.now lexeme n → ⊥) result }
+    ensures { Answers (λ found. IsLettered (is_raw text.now) text.now found.0 found.1)
+        ((lexeme : Lexeme) (n : ℕ) → IsLettered (is_raw text.now) text.now lexeme n → ⊥) result }
 {
     if is_raw(text) {
         quoted(alloc, text)
@@ -95,7 +101,8 @@ fn lettered(alloc: Global, text: &[u8]) -> May<(Lexeme, usize), NoLexeme>
 }
 
 fn line_continuation(text: &[u8]) -> May<(Lexeme, usize), NoLexeme>
-    ensures { Answers (λ found. IsLineContinuation text.now found.0 found.1) ((lexeme : Lexeme) (n : ℕ) → IsLineContinuation text.now lexeme n → ⊥) result }
+    ensures { Answers (λ found. IsLineContinuation text.now found.0 found.1)
+        ((lexeme : Lexeme) (n : ℕ) → IsLineContinuation text.now lexeme n → ⊥) result }
 {
     match line_end(behind(text, 1)) {
         Some(size) => Ok((Lexeme::LineContinuation, 1 + size)),
@@ -104,7 +111,8 @@ fn line_continuation(text: &[u8]) -> May<(Lexeme, usize), NoLexeme>
 }
 
 fn feed(text: &[u8]) -> May<(Lexeme, usize), NoLexeme>
-    ensures { Answers (λ found. IsLineEnd text.now found.0 found.1) ((lexeme : Lexeme) (n : ℕ) → IsLineEnd text.now lexeme n → ⊥) result }
+    ensures { Answers (λ found. IsLineEnd text.now found.0 found.1)
+        ((lexeme : Lexeme) (n : ℕ) → IsLineEnd text.now lexeme n → ⊥) result }
 {
     match line_end(text) {
         Some(size) => Ok((Lexeme::LineEnd, size)),
@@ -113,7 +121,8 @@ fn feed(text: &[u8]) -> May<(Lexeme, usize), NoLexeme>
 }
 
 fn punctuation(text: &[u8]) -> May<(Lexeme, usize), NoLexeme>
-    ensures { Answers (λ found. IsPunctuation text.now found.0 found.1) ((lexeme : Lexeme) (n : ℕ) → IsPunctuation text.now lexeme n → ⊥) result }
+    ensures { Answers (λ found. IsPunctuation text.now found.0 found.1)
+        ((lexeme : Lexeme) (n : ℕ) → IsPunctuation text.now lexeme n → ⊥) result }
 {
     match mark_length(text) {
         Some(size) => Ok((Lexeme::Shown(TokenKind::Mark), size)),
@@ -124,7 +133,8 @@ fn punctuation(text: &[u8]) -> May<(Lexeme, usize), NoLexeme>
 fn lexeme_of_class(alloc: Global, class: Class, text: &[u8]) -> May<(Lexeme, usize), NoLexeme>
     requires first { class ≡ class_of (slice_index text.now 0) }
     requires utf8 { IsUtf8 text.now }
-    ensures { Answers (λ found. IsOfClass class text.now found.0 found.1) ((lexeme : Lexeme) (n : ℕ) → IsOfClass class text.now lexeme n → ⊥) result }
+    ensures { Answers (λ found. IsOfClass class text.now found.0 found.1)
+        ((lexeme : Lexeme) (n : ℕ) → IsOfClass class text.now lexeme n → ⊥) result }
 {
     match class {
         Class::Space => Ok(whitespace(text)),
@@ -142,7 +152,8 @@ fn lexeme_of_class(alloc: Global, class: Class, text: &[u8]) -> May<(Lexeme, usi
 #[tactic(auto, unfolding(crate::specs::Lexemes::IsLexeme))]
 pub(crate) fn front_lexeme(alloc: Global, text: &[u8]) -> May<(Lexeme, usize), NoLexeme>
     requires { IsUtf8 text.now }
-    ensures { Answers (λ found. IsLexeme text.now found.0 found.1) ((lexeme : Lexeme) (n : ℕ) → IsLexeme text.now lexeme n → ⊥) result }
+    ensures { Answers (λ found. IsLexeme text.now found.0 found.1)
+        ((lexeme : Lexeme) (n : ℕ) → IsLexeme text.now lexeme n → ⊥) result }
 {
     lexeme_of_class(alloc, class_of(byte_at(text, 0)), text)
 }

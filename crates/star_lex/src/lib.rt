@@ -1,4 +1,5 @@
-//! Starlark's tokens. The specification is the relation `Lexes` of texts and token lists; `scan` gives what relates, in one pass.
+//! Starlark's tokens. The specification is the relation `Lexes` of texts and token lists; `scan`
+//! gives what relates, in one pass.
 #![tactic(auto)]
 
 mod bytes;

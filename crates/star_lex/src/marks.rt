@@ -1,7 +1,9 @@
 //! Marks.
-ghost use Rattle.std.specs.Prelude.{◌≡◌, ◌≤◌, ℕ, length, take, true, false, IfSome, IfNone, bytes_eq};
+ghost use Rattle.std.specs.Prelude.{◌≡◌, ◌≤◌, ℕ, length, take, true, false, IfSome, IfNone};
+ghost use Rattle.std.specs.Prelude.{bytes_eq};
 ghost use Rattle.std.specs.List.{list_any};
-ghost use Rattle.star_lex.specs.Marks.{double_marks, is_mark, IsLongestMark, single_marks, triple_marks};
+ghost use Rattle.star_lex.specs.Marks.{double_marks, is_mark, IsLongestMark, single_marks};
+ghost use Rattle.star_lex.specs.Marks.{triple_marks};
 
 use bz_text::same_bytes;
 

@@ -1,4 +1,5 @@
-//! One pass over a text: the lexeme at the front of what is left is laid out, until nothing is left.
+//! One pass over a text: the lexeme at the front of what is left is laid out, until nothing is
+//! left.
 ghost use Rattle.std.specs.Prelude.{◌≡◌, ◌≤◌, ◌<◌, ◌+◌, ◌^◌, ℕ, length, IfOk};
 ghost use Rattle.std.specs.Str.{IsUtf8};
 ghost use Rattle.star_lex.specs.Answers.{Answers};
@@ -19,7 +20,8 @@ fn advance(alloc: Global, layout: &mut Layout, rest: &[u8]) -> May<usize, NoLexe
     requires lined { layout.old.line ≤ layout.old.at + 1 }
     requires nested { layout.old.depth ≤ layout.old.at }
     requires utf8 { IsUtf8 rest.now }
-    ensures { Answers (λ n. IsStep layout.old rest.now layout.new n) ((t : Layout) (n : ℕ) → IsStep layout.old rest.now t n → ⊥) result }
+    ensures { Answers (λ n. IsStep layout.old rest.now layout.new n)
+        ((t : Layout) (n : ℕ) → IsStep layout.old rest.now t n → ⊥) result }
 {
     match front_lexeme(alloc, rest) {
         Ok((lexeme, size)) => {

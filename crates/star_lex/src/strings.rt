@@ -1,9 +1,15 @@
-//! Strings. `Style` says how one is written, an item is one character or escape of it, and `string` gives the value of the one at the front.
-ghost use Rattle.std.specs.Prelude.{◌≡◌, ◌≤◌, ◌<◌, ◌+◌, ◌++◌, ◌∷◌, [], ℕ, List, length, drop, slice_index, OnOk, option_and_then};
+//! Strings. `Style` says how one is written, an item is one character or escape of it, and `string`
+//! gives the value of the one at the front.
+ghost use Rattle.std.specs.Prelude.{◌≡◌, ◌≤◌, ◌<◌, ◌+◌, ◌++◌, ◌∷◌, [], ℕ, List, length, drop};
+ghost use Rattle.std.specs.Prelude.{slice_index, OnOk, option_and_then};
 ghost use Rattle.std.specs.Char.{encode_utf8};
 ghost use Rattle.std.specs.Str.{IsUtf8};
 ghost use Rattle.star_lex.specs.Answers.{Answers};
-ghost use Rattle.star_lex.specs.Strings.{bytes_of, closes, Contents, IsString, escape, front_number, is_octal_digit, is_quote, is_raw, is_scalar, is_tripled, item, numbered_escape, octal_digits, opening, plain, prefix, quotes, raw_pair, simple_escape, style_of, ascii, scalar};
+ghost use Rattle.star_lex.specs.Strings.{bytes_of, closes, Contents, IsString, escape};
+ghost use Rattle.star_lex.specs.Strings.{front_number, is_octal_digit, is_quote, is_raw, is_scalar};
+ghost use Rattle.star_lex.specs.Strings.{is_tripled, item, numbered_escape, octal_digits, opening};
+ghost use Rattle.star_lex.specs.Strings.{plain, prefix, quotes, raw_pair, simple_escape, style_of};
+ghost use Rattle.star_lex.specs.Strings.{ascii, scalar};
 
 use crate::bytes::{byte_at, is_visible, line_end};
 use crate::integers::number;
@@ -293,7 +299,8 @@ fn push_character(alloc: Global, value: &mut Vec<u8>, character: char) -> Mem<()
 /// The value of the items up to the quotes at the end, and the length of both.
 fn contents(alloc: Global, style: Style, text: &[u8]) -> May<(Vec<u8>, usize), NoLexeme>
     requires { 0 < style.quote }
-    ensures { Answers (λ found. Contents style text.now found.0.items found.1) ((value : List ℕ) (n : ℕ) → Contents style text.now value n → ⊥) result }
+    ensures { Answers (λ found. Contents style text.now found.0.items found.1)
+        ((value : List ℕ) (n : ℕ) → Contents style text.now value n → ⊥) result }
 {
     let mut value = Vec::new(alloc);
     let mut rest = text;
@@ -332,7 +339,8 @@ pub(crate) fn string(alloc: Global, text: &[u8]) -> May<(Txt, usize), NoLexeme>
     requires some { 0 < slice_index text.now (prefix text.now) }
     requires ascii { slice_index text.now (prefix text.now) < 128 }
     requires utf8 { IsUtf8 text.now }
-    ensures { Answers (λ found. IsString text.now found.0 found.1) ((value : List ℕ) (n : ℕ) → IsString text.now value n → ⊥) result }
+    ensures { Answers (λ found. IsString text.now found.0 found.1)
+        ((value : List ℕ) (n : ℕ) → IsString text.now value n → ⊥) result }
 {
     let before = opening(text);
     match contents(alloc, style_of(text), behind(text, before)) {

@@ -15,7 +15,8 @@ pub enum TokenKind {
     Outdent,
 }
 
-/// A token, the bytes of the text from which and to which it goes, and the line on which it begins, from 1.
+/// A token, the bytes of the text from which and to which it goes, and the line on which it begins,
+/// from 1.
 #[derive(Debug, Drop)]
 pub struct Token {
     pub kind: TokenKind,

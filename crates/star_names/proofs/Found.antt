@@ -8,9 +8,13 @@ pub further-zero : (answer : Option (ℕ × ℕ)) → further 0 answer ≡ answe
 further-zero None = refl
 further-zero (Some (scope, slot)) = ap (λ n. Some (n, slot)) (omega arith)
 
-pub further-further : (one other : ℕ) (answer : Option (ℕ × ℕ)) → further one (further other answer) ≡ further (other + one) answer
+pub further-further : (one other : ℕ) (answer : Option (ℕ × ℕ))
+    → further one (further other answer) ≡ further (other + one) answer
 further-further one other None = refl
 further-further one other (Some (scope, slot)) = ap (λ n. Some (n, slot)) (omega arith)
 
-pub scope_and_slot-last : (outer : List Names) (names : Names) (name : List ℕ) → scope_and_slot (reverse (outer ++ names ∷ [])) name ≡ here_or_further (slot_of names name) (scope_and_slot (reverse outer) name)
-scope_and_slot-last outer names name = ap (λ scopes. scope_and_slot scopes name) (reverse-append outer (names ∷ []))
+pub scope_and_slot-last : (outer : List Names) (names : Names) (name : List ℕ)
+    → scope_and_slot (reverse (outer ++ names ∷ [])) name
+    ≡ here_or_further (slot_of names name) (scope_and_slot (reverse outer) name)
+scope_and_slot-last outer names name = ap (λ scopes. scope_and_slot scopes name)
+    (reverse-append outer (names ∷ []))

@@ -32,15 +32,18 @@ abbrev pub unless_refused : Option Refused → Result File unbounds.Unbound → 
 unless_refused (Some refused) names = Err (Dialect refused.line (form_text refused.form))
 unless_refused None names = file_or_unbound names
 
--- a tree in a dialect: the first form that is refused; where there is none the first name without a binding; else the file with its names resolved
+-- a tree in a dialect: the first form that is refused; where there is none the first name without a
+-- binding; else the file with its names resolved
 abbrev pub meaning_in : dialects.Dialect → List BareStmt → Result File ParseFault
 meaning_in dialect body = unless_refused (first_form dialect body) (resolved dialect body)
 
 -- the text spells a tree, which comes to this
 abbrev pub IsMeaningOf : dialects.Dialect → List ℕ → Result File ParseFault → Type 0
-IsMeaningOf dialect text what = (tree : BareFile) × Spelled text tree × (meaning_in dialect tree.body ≡ what)
+IsMeaningOf dialect text what = (tree : BareFile) × Spelled text tree
+    × (meaning_in dialect tree.body ≡ what)
 
--- Lex exactly where the text has no tokens, Syntax exactly where it has tokens and spells no tree, else what its tree is in the dialect
+-- Lex exactly where the text has no tokens, Syntax exactly where it has tokens and spells no tree,
+-- else what its tree is in the dialect
 abbrev pub IsFileOf : dialects.Dialect → List ℕ → Result File ParseFault → Type 0
 IsFileOf dialect text (Ok file) = IsMeaningOf dialect text (Ok file)
 IsFileOf dialect text (Err (Lex hint)) = (tokens : List Token) → Lexes text tokens → ⊥

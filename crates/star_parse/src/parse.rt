@@ -1,4 +1,5 @@
-//! Files of the two dialects: the tree that a text spells, then the forms that its dialect refuses, then its names.
+//! Files of the two dialects: the tree that a text spells, then the forms that its dialect refuses,
+//! then its names.
 ghost use Rattle.std.specs.Prelude.{◌≡◌, IfOk};
 ghost use Rattle.bz_text.specs.Answers.{Gives};
 ghost use Rattle.star_trees.specs.WellFormed.{WellFormed};
@@ -15,7 +16,8 @@ use star_statements::{TreeFault, tree};
 use star_trees::File;
 use std::alloc::Global;
 
-/// Why a text is no file of its dialect. The hint is the line to look at; `form` is the form that is refused.
+/// Why a text is no file of its dialect. The hint is the line to look at; `form` is the form that
+/// is refused.
 #[derive(Debug, Drop)]
 pub enum ParseFault {
     Lex { hint: u64 },
@@ -24,7 +26,8 @@ pub enum ParseFault {
     Unbound { line: u64, name: Txt },
 }
 
-/// An extension's or a rule's file. It is well formed: an evaluation may rest on its places, variables and depth.
+/// An extension's or a rule's file. It is well formed: an evaluation may rest on its places,
+/// variables and depth.
 pub fn parse_bzl(alloc: Global, text: &str) -> May<File, ParseFault>
     ensures parses { Parses dialect.Extension text.now result }
     ensures well_formed { IfOk result WellFormed }

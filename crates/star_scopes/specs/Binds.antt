@@ -1,8 +1,10 @@
 -- What targets, parameters and clauses bind.
 use Rattle.std.specs.Prelude.{map}
-use Rattle.star_grammar.specs.declared.bare_expressions.BareArg.TheOpen.{BareClause-F, BareExpr-F, BareParam-F}
+use Rattle.star_grammar.specs.declared.bare_expressions.BareArg.TheOpen.{BareClause-F, BareExpr-F}
+use Rattle.star_grammar.specs.declared.bare_expressions.BareArg.TheOpen.{BareParam-F}
 use Rattle.star_trees.specs.Variables.{Binding, no_binding, each_binds, name_binds}
-use Rattle.star_scopes.specs.Meanings.{ArgMeaning, ClauseMeaning, ExprMeaning, PairMeaning, ParamMeaning}
+use Rattle.star_scopes.specs.Meanings.{ArgMeaning, ClauseMeaning, ExprMeaning, PairMeaning}
+use Rattle.star_scopes.specs.Meanings.{ParamMeaning}
 
 -- an expression, a parameter and a clause, opened once
 abbrev pub ExprLayer : Type 0

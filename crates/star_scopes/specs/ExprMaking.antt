@@ -1,4 +1,5 @@
--- The trees that are made of expressions, in the order of the text: each function takes its place where it begins.
+-- The trees that are made of expressions, in the order of the text: each function takes its place
+-- where it begins.
 use Rattle.std.specs.Prelude.{ℕ, List, [], ◌∷◌, map, Option, Some, None}
 use Rattle.star_trees.specs.declared.files.FnBody.TheVariants as body_tree
 use Rattle.star_trees.specs.declared.files.FnCode.{FnCode}
@@ -15,16 +16,19 @@ use Rattle.star_trees.specs.declared.trees.Expr as e
 use Rattle.star_trees.specs.declared.trees.ExprPair.{ExprPair, roll-ExprPair}
 use Rattle.star_trees.specs.declared.trees.Target.{Target}
 use Rattle.star_trees.specs.declared.trees.Target as target_tree
-use Rattle.star_grammar.specs.declared.bare_expressions.BareArg.TheOpen.{BareArg-F, BareClause-F, BareExpr-F, BareParam-F}
+use Rattle.star_grammar.specs.declared.bare_expressions.BareArg.TheOpen.{BareArg-F, BareClause-F}
+use Rattle.star_grammar.specs.declared.bare_expressions.BareArg.TheOpen.{BareExpr-F, BareParam-F}
 use Rattle.star_trees.specs.Variables.{Names, variables}
 use Rattle.star_scopes.specs.Binds.{ClauseLayer, ExprLayer, ParamLayer}
 use Rattle.star_scopes.specs.Making.{Making, ◌>>=◌, ◌>>◌, pure, each, begin, finish}
-use Rattle.star_scopes.specs.Meanings.{ArgMeaning, ClauseMeaning, ExprMeaning, PairMeaning, ParamMeaning}
+use Rattle.star_scopes.specs.Meanings.{ArgMeaning, ClauseMeaning, ExprMeaning, PairMeaning}
+use Rattle.star_scopes.specs.Meanings.{ParamMeaning}
 use Rattle.star_scopes.specs.Scopes.{variable}
 
 -- the code of a `lambda`
 abbrev pub lambda_code : List Param → Expr → ℕ → FnCode
-lambda_code params body line = record { name = None; params = params; body = body_tree.Value body; line = line }
+lambda_code params body line = record
+    { name = None; params = params; body = body_tree.Value body; line = line }
 
 module _ (free : Names) (scopes : List Names) where
   unfoldable pub items_made : List ExprMeaning → Making (List Expr)
@@ -67,7 +71,10 @@ module _ (free : Names) (scopes : List Names) where
   more_clauses_made inner clauses = each (map (λ clause. clause.clause free inner inner) clauses)
 
   -- the operand of the first `in` stands outside the comprehension
-  unfoldable pub some_clauses_made : List Names → ClauseMeaning → List ClauseMeaning → Making (List Clause)
+  unfoldable pub some_clauses_made : List Names
+      → ClauseMeaning
+      → List ClauseMeaning
+      → Making (List Clause)
   some_clauses_made inner first more = do
     made ← first.clause free inner scopes
     others ← more_clauses_made inner more
@@ -130,7 +137,11 @@ module _ (free : Names) (scopes : List Names) where
     made_at ← at.expr free scopes
     pure (e.Index made made_at)
 
-  unfoldable pub slice_made : ExprMeaning → Option ExprMeaning → Option ExprMeaning → Option ExprMeaning → Making Expr
+  unfoldable pub slice_made : ExprMeaning
+      → Option ExprMeaning
+      → Option ExprMeaning
+      → Option ExprMeaning
+      → Making Expr
   slice_made container begin end step = do
     made ← container.expr free scopes
     made_begin ← maybe_made begin
@@ -163,20 +174,24 @@ expr_made (BareExpr-F.List items) free scopes = list_made free scopes items
 expr_made (BareExpr-F.Tuple items) free scopes = tuple_made free scopes items
 expr_made (BareExpr-F.Dict pairs) free scopes = dict_made free scopes pairs
 expr_made (BareExpr-F.ListComp item clauses) free scopes = list_comp_made free scopes item clauses
-expr_made (BareExpr-F.DictComp key value clauses) free scopes = dict_comp_made free scopes key value clauses
+expr_made (BareExpr-F.DictComp key value clauses) free scopes = dict_comp_made free scopes key value
+    clauses
 expr_made (BareExpr-F.Bracketed inside) free scopes = inside.expr free scopes
 expr_made (BareExpr-F.Unary op operand) free scopes = unary_made free scopes op operand
 expr_made (BareExpr-F.Binary op left right) free scopes = binary_made free scopes op left right
 expr_made (BareExpr-F.Cond test chosen other) free scopes = cond_made free scopes test chosen other
-expr_made (BareExpr-F.Lambda params body line) free scopes = lambda_made free scopes params body line
+expr_made (BareExpr-F.Lambda params body line) free scopes = lambda_made free scopes params body
+    line
 expr_made (BareExpr-F.Attr container name) free scopes = attr_made free scopes container name
 expr_made (BareExpr-F.Index container at) free scopes = index_made free scopes container at
-expr_made (BareExpr-F.Slice container begin end step) free scopes = slice_made free scopes container begin end step
+expr_made (BareExpr-F.Slice container begin end step) free scopes = slice_made free scopes container
+    begin end step
 expr_made (BareExpr-F.Call function args) free scopes = call_made free scopes function args
 
 -- what is no target, and so never stands as one, would bind nothing
 abbrev pub target_made : ExprLayer → Names → List Names → Making Target
-target_made (BareExpr-F.Name name) free scopes = pure (target_tree.Name (variable free scopes name.name))
+target_made (BareExpr-F.Name name) free scopes = pure
+    (target_tree.Name (variable free scopes name.name))
 target_made (BareExpr-F.Index container at) free scopes = index_target free scopes container at
 target_made (BareExpr-F.Bracketed target) free scopes = target.target free scopes
 target_made (BareExpr-F.Tuple targets) free scopes = many_target free scopes targets
@@ -193,11 +208,17 @@ optional_made free scopes name default = do
   made ← default.expr free scopes
   pure (param_tree.Optional name made)
 
-abbrev pub arg_made : BareArg-F ArgMeaning ClauseMeaning ExprMeaning ParamMeaning PairMeaning → Names → List Names → Making Arg
-arg_made (BareArg-F.Positional value) free scopes = value.expr free scopes >>= (λ made. pure (arg_tree.Positional made))
+abbrev pub arg_made : BareArg-F ArgMeaning ClauseMeaning ExprMeaning ParamMeaning PairMeaning
+    → Names
+    → List Names
+    → Making Arg
+arg_made (BareArg-F.Positional value) free scopes = value.expr free scopes >>=
+    (λ made. pure (arg_tree.Positional made))
 arg_made (BareArg-F.Named name value) free scopes = named_arg_made free scopes name value
-arg_made (BareArg-F.Star value line) free scopes = value.expr free scopes >>= (λ made. pure (arg_tree.Star made))
-arg_made (BareArg-F.DoubleStar value line) free scopes = value.expr free scopes >>= (λ made. pure (arg_tree.DoubleStar made))
+arg_made (BareArg-F.Star value line) free scopes = value.expr free scopes >>=
+    (λ made. pure (arg_tree.Star made))
+arg_made (BareArg-F.DoubleStar value line) free scopes = value.expr free scopes >>=
+    (λ made. pure (arg_tree.DoubleStar made))
 
 abbrev pub param_made : ParamLayer → Names → List Names → Making Param
 param_made (BareParam-F.Required name) free scopes = pure (param_tree.Required name)
@@ -212,7 +233,12 @@ pair_made free scopes key value = do
   made ← value.expr free scopes
   pure (roll-ExprPair (record { key = made_key; value = made }))
 
-unfoldable pub for_clause_made : Names → List Names → List Names → ExprMeaning → ExprMeaning → Making Clause
+unfoldable pub for_clause_made : Names
+    → List Names
+    → List Names
+    → ExprMeaning
+    → ExprMeaning
+    → Making Clause
 for_clause_made free inner around to over = do
   made_to ← to.target free inner
   made ← over.expr free around
@@ -220,4 +246,5 @@ for_clause_made free inner around to over = do
 
 abbrev pub clause_made : ClauseLayer → Names → List Names → List Names → Making Clause
 clause_made (BareClause-F.For to over) free inner around = for_clause_made free inner around to over
-clause_made (BareClause-F.If test) free inner around = test.expr free inner >>= (λ made. pure (clause_tree.If made))
+clause_made (BareClause-F.If test) free inner around = test.expr free inner >>=
+    (λ made. pure (clause_tree.If made))

@@ -24,11 +24,13 @@ abbrev pub no_lists : Lists
 no_lists = record { functions = []; loads = [] }
 
 abbrev pub file_of : Names → List Stmt × Lists → File
-file_of free made = record { body = made.0; loads = made.1.loads; functions = made.1.functions; free = free }
+file_of free made = record
+    { body = made.0; loads = made.1.loads; functions = made.1.functions; free = free }
 
 -- a file whose free names are these, with each name as its variable
 abbrev pub file_with : Names → List BareStmt → File
-file_with free body = file_of free (body_made free (file_scopes body) (map stmt_meaning body) no_lists)
+file_with free body = file_of free
+    (body_made free (file_scopes body) (map stmt_meaning body) no_lists)
 
 abbrev pub with_free : List BareStmt → Result Names Unbound → Result File Unbound
 with_free body (Ok free) = Ok (file_with free body)

@@ -1,4 +1,5 @@
--- What is made beside a tree: the functions of the file, each at the place that it takes where it begins, and its loads.
+-- What is made beside a tree: the functions of the file, each at the place that it takes where it
+-- begins, and its loads.
 use Rattle.std.specs.Prelude.{ℕ, List, [], ◌∷◌, ◌++◌, length, set}
 use Rattle.star_trees.specs.Functions.{unfinished_code}
 use Rattle.star_trees.specs.declared.files.FnCode.{FnCode}
@@ -34,12 +35,21 @@ prepended made others = (made ++ others.0, others.1)
 
 -- the next place among the functions, taken
 abbrev pub begin : Making ℕ
-begin = λ lists. (length lists.functions, record { functions = lists.functions ++ unfinished_code ∷ []; loads = lists.loads })
+begin = λ lists. (
+  length lists.functions,
+  record {
+    functions = lists.functions ++ unfinished_code ∷
+        [];
+    loads = lists.loads;
+  },
+)
 
 -- a function's code, at the place that it took
 abbrev pub finish : ℕ → FnCode → Making (Unit {0})
-finish place code = λ lists. (tt, record { functions = set lists.functions place code; loads = lists.loads })
+finish place code = λ lists.
+    (tt, record { functions = set lists.functions place code; loads = lists.loads })
 
 -- the next place among the loads, taken
 abbrev pub load : Load → Making ℕ
-load loaded = λ lists. (length lists.loads, record { functions = lists.functions; loads = lists.loads ++ loaded ∷ [] })
+load loaded = λ lists.
+    (length lists.loads, record { functions = lists.functions; loads = lists.loads ++ loaded ∷ [] })

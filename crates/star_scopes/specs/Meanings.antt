@@ -1,4 +1,5 @@
--- What a tree means where names are concerned, beside what it is at another place: which names it binds as a target, which free names it uses, and the tree that is made of it.
+-- What a tree means where names are concerned, beside what it is at another place: which names it
+-- binds as a target, which free names it uses, and the tree that is made of it.
 use Rattle.std.specs.Prelude.{ℕ, List}
 use Rattle.star_trees.specs.declared.files.Param.{Param}
 use Rattle.star_trees.specs.declared.trees.Arg.{Arg}
@@ -37,7 +38,8 @@ pub record ParamMeaning : Type 0 where
   pub uses : Dialect → List Names → Uses
   pub param : Made Param
 
--- a clause of a comprehension: what is bound stands in the scopes that come first, the operand of `in` in those that come second
+-- a clause of a comprehension: what is bound stands in the scopes that come first, the operand of
+-- `in` in those that come second
 pub record ClauseMeaning : Type 0 where
   pub bound : Binding
   pub uses : Dialect → List Names → List Names → Uses

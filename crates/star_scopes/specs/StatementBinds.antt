@@ -11,7 +11,8 @@ body_binds body = each_binds (map (λ statement. statement.bound) body)
 
 abbrev pub kind_binds : BareStmtKind-F KindMeaning StmtMeaning → Binding
 kind_binds (BareStmtKind-F.Def name params body) = name_binds name.name
-kind_binds (BareStmtKind-F.If test chosen other) = λ names. body_binds other (body_binds chosen names)
+kind_binds (BareStmtKind-F.If test chosen other) = λ names. body_binds other
+    (body_binds chosen names)
 kind_binds (BareStmtKind-F.For to over body) = λ names. body_binds body ((meaning to).bound names)
 kind_binds (BareStmtKind-F.Load file loaded) = each_binds (map loaded_binds loaded)
 kind_binds (BareStmtKind-F.Assign to value) = (meaning to).bound

@@ -1,4 +1,5 @@
--- The trees that are made of statements, in the order of the text: each function takes its place where it begins.
+-- The trees that are made of statements, in the order of the text: each function takes its place
+-- where it begins.
 use Rattle.std.specs.Prelude.{ℕ, List, ◌∷◌, map, Option, Some, None}
 use Rattle.star_trees.specs.declared.files.FnBody.TheVariants as body_tree
 use Rattle.star_trees.specs.declared.files.FnCode.{FnCode}
@@ -22,11 +23,17 @@ use Rattle.star_scopes.specs.Scopes.{variable}
 
 -- the code of a `def`
 abbrev pub def_code : List ℕ → List Param → List Stmt → ℕ → FnCode
-def_code name params body line = record { name = Some name; params = params; body = body_tree.Block body; line = line }
+def_code name params body line = record
+    { name = Some name; params = params; body = body_tree.Block body; line = line }
 
 -- a `load` statement on a line
 abbrev pub load_of : List ℕ → List BareLoadName → ℕ → Load
-load_of file names line = record { file = file; names = map (λ (loaded : BareLoadName). loaded.name) names; line = line }
+load_of file names line = record {
+  file = file;
+  names = map
+      (λ (loaded : BareLoadName). loaded.name) names;
+  line = line;
+}
 
 unfoldable pub load_made : List ℕ → List BareLoadName → ℕ → Making StmtKind
 load_made file names line = do
@@ -75,17 +82,31 @@ module _ (free : Names) (scopes : List Names) where
     pure (st.Value made)
 
 -- the defaults stand outside the function
-unfoldable pub def_made : Names → List Names → BareName → List BareParam → List StmtMeaning → ℕ → Making StmtKind
+unfoldable pub def_made : Names
+    → List Names
+    → BareName
+    → List BareParam
+    → List StmtMeaning
+    → ℕ
+    → Making StmtKind
 def_made free scopes name params body line = do
   place ← begin
   made_params ← params_made free scopes (map param_meaning params)
-  made ← body_made free (function_variables (map (λ param. param.bound) (map param_meaning params)) (map (λ (one : StmtMeaning). one.bound) body) ∷ scopes) body
+  made ← body_made free
+      (function_variables (map (λ param. param.bound) (map param_meaning params))
+      (map (λ (one : StmtMeaning). one.bound) body) ∷ scopes) body
   finish place (def_code name.name made_params made line)
   pure (st.Def place (variable free scopes name.name))
 
-abbrev pub kind_made : BareStmtKind-F KindMeaning StmtMeaning → ℕ → Names → List Names → Making StmtKind
-kind_made (BareStmtKind-F.Def name params body) line free scopes = def_made free scopes name params body line
-kind_made (BareStmtKind-F.If test chosen other) line free scopes = if_made free scopes test chosen other
+abbrev pub kind_made : BareStmtKind-F KindMeaning StmtMeaning
+    → ℕ
+    → Names
+    → List Names
+    → Making StmtKind
+kind_made (BareStmtKind-F.Def name params body) line free scopes = def_made free scopes name params
+    body line
+kind_made (BareStmtKind-F.If test chosen other) line free scopes = if_made free scopes test chosen
+    other
 kind_made (BareStmtKind-F.For to over body) line free scopes = for_made free scopes to over body
 kind_made (BareStmtKind-F.Return value) line free scopes = return_made free scopes value
 kind_made BareStmtKind-F.Break line free scopes = pure st.Break
@@ -93,7 +114,8 @@ kind_made BareStmtKind-F.Continue line free scopes = pure st.Continue
 kind_made BareStmtKind-F.Pass line free scopes = pure st.Pass
 kind_made (BareStmtKind-F.Load file names) line free scopes = load_made file names line
 kind_made (BareStmtKind-F.Assign to value) line free scopes = assign_made free scopes to value
-kind_made (BareStmtKind-F.Augment place op value) line free scopes = augment_made free scopes place op value
+kind_made (BareStmtKind-F.Augment place op value) line free scopes = augment_made free scopes place
+    op value
 kind_made (BareStmtKind-F.Value value) line free scopes = value_made free scopes value
 
 -- a statement on its line

@@ -1,4 +1,5 @@
--- Free names: those that no scope binds. Each stands once, in the order of its first use; the first that has no meaning in the dialect is unbound.
+-- Free names: those that no scope binds. Each stands once, in the order of its first use; the first
+-- that has no meaning in the dialect is unbound.
 use Rattle.std.specs.Prelude.{ℕ, List, [], ◌∷◌, Option, Some, None, Result, Ok, Err, if◌then◌else◌}
 use Rattle.star_grammar.specs.declared.bare_expressions.BareName.{BareName}
 use Rattle.star_trees.specs.Variables.{Names, scope_and_slot, with_binding}

@@ -29,7 +29,8 @@ fn with_target(alloc: Global, names: Names, target: &BareExpr) -> Mem<Names>
 #[cycle(binding_targets)]
 #[tactic(auto, using(crate::proofs::Walks::binding_walks))]
 fn with_targets(alloc: Global, names: Names, targets: &[BareExpr]) -> Mem<Names>
-    ensures { IfOk result (λ bound. bound ≡ each_binds (map (λ (one : ExprMeaning). one.bound) (map meaning targets.now)) names) }
+    ensures { IfOk result (λ bound. bound ≡ each_binds (map (λ (one : ExprMeaning). one.bound) (map
+        meaning targets.now)) names) }
 {
     let mut names = names;
     'targets: for target in targets {
@@ -51,7 +52,8 @@ fn with_clause(alloc: Global, names: Names, clause: &BareClause) -> Mem<Names>
 /// The variables of a comprehension.
 #[tactic(auto, using(crate::proofs::Walks::binding_walks))]
 pub(crate) fn clause_variables(alloc: Global, clauses: &[BareClause]) -> Mem<Names>
-    ensures { IfOk result (λ bound. bound ≡ variables (map (λ (one : ClauseMeaning). one.bound) (map clause_meaning clauses.now))) }
+    ensures { IfOk result (λ bound. bound ≡ variables (map (λ (one : ClauseMeaning). one.bound) (map
+        clause_meaning clauses.now))) }
 {
     let mut names = Names::new(alloc);
     'clauses: for clause in clauses {
@@ -76,7 +78,8 @@ fn with_param(alloc: Global, names: Names, param: &BareParam) -> Mem<Names>
 /// The variables that parameters are.
 #[tactic(auto, using(crate::proofs::Walks::binding_walks))]
 pub(crate) fn param_variables(alloc: Global, params: &[BareParam]) -> Mem<Names>
-    ensures { IfOk result (λ bound. bound ≡ variables (map (λ (one : ParamMeaning). one.bound) (map param_meaning params.now))) }
+    ensures { IfOk result (λ bound. bound ≡ variables (map (λ (one : ParamMeaning). one.bound) (map
+        param_meaning params.now))) }
 {
     let mut names = Names::new(alloc);
     'params: for param in params {
@@ -159,7 +162,9 @@ pub(crate) fn function_variables(
     params: &[BareParam],
     body: &[BareStmt],
 ) -> Mem<Names>
-    ensures { IfOk result (λ bound. bound ≡ function_variables (map (λ (one : ParamMeaning). one.bound) (map param_meaning params.now)) (map (λ (one : StmtMeaning). one.bound) (map stmt_meaning body.now))) }
+    ensures { IfOk result (λ bound. bound ≡ function_variables (map (λ (one : ParamMeaning). one.bound)
+        (map param_meaning params.now))
+        (map (λ (one : StmtMeaning). one.bound) (map stmt_meaning body.now))) }
 {
     let names = param_variables(alloc, params)?;
     with_body(alloc, names, body)

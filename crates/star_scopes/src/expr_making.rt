@@ -2,7 +2,8 @@
 ghost use Rattle.std.specs.Prelude.{◌≡◌, ◌∷◌, IfOk, map, option_map};
 ghost use Rattle.star_trees.specs.Variables.{outer};
 ghost use Rattle.star_scopes.specs.ExprMaking as spec;
-ghost use Rattle.star_scopes.specs.ExprMeaning.{arg_meaning, clause_meaning, meaning, pair_meaning, param_meaning};
+ghost use Rattle.star_scopes.specs.ExprMeaning.{arg_meaning, clause_meaning, meaning, pair_meaning};
+ghost use Rattle.star_scopes.specs.ExprMeaning.{param_meaning};
 ghost use Rattle.star_scopes.specs.Maker.{Keeps, Makes};
 
 use crate::bindings::{clause_variables, param_variables};
@@ -17,7 +18,8 @@ impl Maker {
     /// An expression.
     #[cycle(making_expressions)]
     pub(crate) fn expr(&mut self, tree: &BareExpr) -> Mem<Expr>
-        ensures made { Makes ((meaning tree.now).expr self.old.free self.old.scopes self.old.lists) result self.new }
+        ensures made { Makes ((meaning tree.now).expr self.old.free self.old.scopes self.old.lists) result
+            self.new }
         ensures same { Keeps result self.old self.new }
     {
         match tree {
@@ -67,7 +69,8 @@ impl Maker {
 
     #[cycle(making_expressions)]
     fn boxed(&mut self, tree: &BareExpr) -> Mem<Boxed<Expr>>
-        ensures made { Makes ((meaning tree.now).expr self.old.free self.old.scopes self.old.lists) result self.new }
+        ensures made { Makes ((meaning tree.now).expr self.old.free self.old.scopes self.old.lists) result
+            self.new }
         ensures same { Keeps result self.old self.new }
     {
         let made = self.expr(tree)?;
@@ -78,7 +81,8 @@ impl Maker {
     #[cycle(making_expressions)]
     #[tactic(auto, unfolding(crate::specs::ExprMeaning::meaning))]
     pub(crate) fn target(&mut self, tree: &BareExpr) -> Mem<Target>
-        ensures made { Makes ((meaning tree.now).target self.old.free self.old.scopes self.old.lists) result self.new }
+        ensures made { Makes ((meaning tree.now).target self.old.free self.old.scopes self.old.lists) result
+            self.new }
         ensures same { Keeps result self.old self.new }
     {
         match tree {
@@ -94,7 +98,8 @@ impl Maker {
     #[cycle(making_expressions)]
     #[tactic(auto, using(crate::proofs::Walks::making_walks), unfolding(crate::specs::ExprMaking::items_made))]
     fn items_made(&mut self, items: &[BareExpr]) -> Mem<Items<Expr>>
-        ensures made { Makes (spec.items_made self.old.free self.old.scopes (map meaning items.now) self.old.lists) result self.new }
+        ensures made { Makes (spec.items_made self.old.free self.old.scopes (map meaning items.now)
+            self.old.lists) result self.new }
         ensures same { Keeps result self.old self.new }
     {
         let mut made = Vec::new(self.alloc);
@@ -107,7 +112,8 @@ impl Maker {
     #[cycle(making_expressions)]
     #[tactic(auto, using(crate::proofs::Walks::making_walks), unfolding(crate::specs::ExprMaking::targets_made))]
     fn targets_made(&mut self, targets: &[BareExpr]) -> Mem<Items<Target>>
-        ensures made { Makes (spec.targets_made self.old.free self.old.scopes (map meaning targets.now) self.old.lists) result self.new }
+        ensures made { Makes (spec.targets_made self.old.free self.old.scopes (map meaning targets.now)
+            self.old.lists) result self.new }
         ensures same { Keeps result self.old self.new }
     {
         let mut made = Vec::new(self.alloc);
@@ -120,7 +126,8 @@ impl Maker {
     #[cycle(making_expressions)]
     #[tactic(auto, using(crate::proofs::Walks::making_walks), unfolding(crate::specs::ExprMaking::pairs_made))]
     fn pairs_made(&mut self, pairs: &[BarePair]) -> Mem<Items<ExprPair>>
-        ensures made { Makes (spec.pairs_made self.old.free self.old.scopes (map pair_meaning pairs.now) self.old.lists) result self.new }
+        ensures made { Makes (spec.pairs_made self.old.free self.old.scopes (map pair_meaning pairs.now)
+            self.old.lists) result self.new }
         ensures same { Keeps result self.old self.new }
     {
         let mut made = Vec::new(self.alloc);
@@ -133,7 +140,8 @@ impl Maker {
     #[cycle(making_expressions)]
     #[tactic(auto, unfolding(crate::specs::ExprMaking::pair_made))]
     fn pair(&mut self, pair: &BarePair) -> Mem<ExprPair>
-        ensures made { Makes ((pair_meaning pair.now).pair self.old.free self.old.scopes self.old.lists) result self.new }
+        ensures made { Makes ((pair_meaning pair.now).pair self.old.free self.old.scopes self.old.lists) result
+            self.new }
         ensures same { Keeps result self.old self.new }
     {
         let key = self.expr(&pair.key)?;
@@ -144,7 +152,8 @@ impl Maker {
     #[cycle(making_expressions)]
     #[tactic(auto, using(crate::proofs::Walks::making_walks), unfolding(crate::specs::ExprMaking::args_made))]
     fn args_made(&mut self, args: &[BareArg]) -> Mem<Items<Arg>>
-        ensures made { Makes (spec.args_made self.old.free self.old.scopes (map arg_meaning args.now) self.old.lists) result self.new }
+        ensures made { Makes (spec.args_made self.old.free self.old.scopes (map arg_meaning args.now)
+            self.old.lists) result self.new }
         ensures same { Keeps result self.old self.new }
     {
         let mut made = Vec::new(self.alloc);
@@ -156,7 +165,8 @@ impl Maker {
 
     #[cycle(making_expressions)]
     fn arg(&mut self, arg: &BareArg) -> Mem<Arg>
-        ensures made { Makes ((arg_meaning arg.now).arg self.old.free self.old.scopes self.old.lists) result self.new }
+        ensures made { Makes ((arg_meaning arg.now).arg self.old.free self.old.scopes self.old.lists) result
+            self.new }
         ensures same { Keeps result self.old self.new }
     {
         match arg {
@@ -170,7 +180,8 @@ impl Maker {
     #[cycle(making_expressions)]
     #[tactic(auto, unfolding(crate::specs::ExprMaking::named_arg_made))]
     fn named_arg(&mut self, name: &Txt, value: &BareExpr) -> Mem<Arg>
-        ensures made { Makes (spec.named_arg_made self.old.free self.old.scopes name.now (meaning value.now) self.old.lists) result self.new }
+        ensures made { Makes (spec.named_arg_made self.old.free self.old.scopes name.now (meaning value.now)
+            self.old.lists) result self.new }
         ensures same { Keeps result self.old self.new }
     {
         let value = self.expr(value)?;
@@ -181,7 +192,8 @@ impl Maker {
     #[cycle(making_expressions)]
     #[tactic(auto, using(crate::proofs::Walks::making_walks), unfolding(crate::specs::ExprMaking::params_made))]
     pub(crate) fn params_made(&mut self, params: &[BareParam]) -> Mem<Seq<Param>>
-        ensures made { Makes (spec.params_made self.old.free self.old.scopes (map param_meaning params.now) self.old.lists) result self.new }
+        ensures made { Makes (spec.params_made self.old.free self.old.scopes (map param_meaning params.now)
+            self.old.lists) result self.new }
         ensures same { Keeps result self.old self.new }
     {
         let mut made = Vec::new(self.alloc);
@@ -193,7 +205,8 @@ impl Maker {
 
     #[cycle(making_expressions)]
     fn param(&mut self, param: &BareParam) -> Mem<Param>
-        ensures made { Makes ((param_meaning param.now).param self.old.free self.old.scopes self.old.lists) result self.new }
+        ensures made { Makes ((param_meaning param.now).param self.old.free self.old.scopes self.old.lists)
+            result self.new }
         ensures same { Keeps result self.old self.new }
     {
         match param {
@@ -208,7 +221,8 @@ impl Maker {
     #[cycle(making_expressions)]
     #[tactic(auto, unfolding(crate::specs::ExprMaking::optional_made))]
     fn optional(&mut self, name: &Txt, default: &BareExpr) -> Mem<Param>
-        ensures made { Makes (spec.optional_made self.old.free self.old.scopes name.now (meaning default.now) self.old.lists) result self.new }
+        ensures made { Makes (spec.optional_made self.old.free self.old.scopes name.now (meaning default.now)
+            self.old.lists) result self.new }
         ensures same { Keeps result self.old self.new }
     {
         let default = self.expr(default)?;
@@ -219,7 +233,8 @@ impl Maker {
     #[cycle(making_expressions)]
     #[tactic(auto, unfolding(crate::specs::ExprMaking::maybe_made))]
     fn maybe(&mut self, bound: &Option<Boxed<BareExpr>>) -> Mem<Option<Boxed<Expr>>>
-        ensures made { Makes (spec.maybe_made self.old.free self.old.scopes (option_map meaning bound.now) self.old.lists) result self.new }
+        ensures made { Makes (spec.maybe_made self.old.free self.old.scopes (option_map meaning bound.now)
+            self.old.lists) result self.new }
         ensures same { Keeps result self.old self.new }
     {
         match bound {
@@ -231,7 +246,8 @@ impl Maker {
     #[cycle(making_expressions)]
     #[tactic(auto, unfolding(crate::specs::ExprMaking::unary_made))]
     fn unary(&mut self, op: UnOp, operand: &BareExpr) -> Mem<Expr>
-        ensures made { Makes (spec.unary_made self.old.free self.old.scopes op (meaning operand.now) self.old.lists) result self.new }
+        ensures made { Makes (spec.unary_made self.old.free self.old.scopes op (meaning operand.now)
+            self.old.lists) result self.new }
         ensures same { Keeps result self.old self.new }
     {
         let of = self.boxed(operand)?;
@@ -241,7 +257,8 @@ impl Maker {
     #[cycle(making_expressions)]
     #[tactic(auto, unfolding(crate::specs::ExprMaking::binary_made))]
     fn binary(&mut self, op: BinOp, left: &BareExpr, right: &BareExpr) -> Mem<Expr>
-        ensures made { Makes (spec.binary_made self.old.free self.old.scopes op (meaning left.now) (meaning right.now) self.old.lists) result self.new }
+        ensures made { Makes (spec.binary_made self.old.free self.old.scopes op (meaning left.now) (meaning
+            right.now) self.old.lists) result self.new }
         ensures same { Keeps result self.old self.new }
     {
         let left = self.boxed(left)?;
@@ -252,7 +269,8 @@ impl Maker {
     #[cycle(making_expressions)]
     #[tactic(auto, unfolding(crate::specs::ExprMaking::cond_made))]
     fn cond(&mut self, test: &BareExpr, chosen: &BareExpr, other: &BareExpr) -> Mem<Expr>
-        ensures made { Makes (spec.cond_made self.old.free self.old.scopes (meaning test.now) (meaning chosen.now) (meaning other.now) self.old.lists) result self.new }
+        ensures made { Makes (spec.cond_made self.old.free self.old.scopes (meaning test.now) (meaning
+            chosen.now) (meaning other.now) self.old.lists) result self.new }
         ensures same { Keeps result self.old self.new }
     {
         let then = self.boxed(chosen)?;
@@ -264,7 +282,8 @@ impl Maker {
     #[cycle(making_expressions)]
     #[tactic(auto, unfolding(crate::specs::ExprMaking::attr_made))]
     fn attr(&mut self, container: &BareExpr, name: &Txt) -> Mem<Expr>
-        ensures made { Makes (spec.attr_made self.old.free self.old.scopes (meaning container.now) name.now self.old.lists) result self.new }
+        ensures made { Makes (spec.attr_made self.old.free self.old.scopes (meaning container.now) name.now
+            self.old.lists) result self.new }
         ensures same { Keeps result self.old self.new }
     {
         let of = self.boxed(container)?;
@@ -275,7 +294,8 @@ impl Maker {
     #[cycle(making_expressions)]
     #[tactic(auto, unfolding(crate::specs::ExprMaking::index_made))]
     fn index(&mut self, container: &BareExpr, at: &BareExpr) -> Mem<Expr>
-        ensures made { Makes (spec.index_made self.old.free self.old.scopes (meaning container.now) (meaning at.now) self.old.lists) result self.new }
+        ensures made { Makes (spec.index_made self.old.free self.old.scopes (meaning container.now) (meaning
+            at.now) self.old.lists) result self.new }
         ensures same { Keeps result self.old self.new }
     {
         let of = self.boxed(container)?;
@@ -286,7 +306,8 @@ impl Maker {
     #[cycle(making_expressions)]
     #[tactic(auto, unfolding(crate::specs::ExprMaking::index_target))]
     fn index_target(&mut self, container: &BareExpr, at: &BareExpr) -> Mem<Target>
-        ensures made { Makes (spec.index_target self.old.free self.old.scopes (meaning container.now) (meaning at.now) self.old.lists) result self.new }
+        ensures made { Makes (spec.index_target self.old.free self.old.scopes (meaning container.now) (meaning
+            at.now) self.old.lists) result self.new }
         ensures same { Keeps result self.old self.new }
     {
         let of = self.boxed(container)?;
@@ -297,7 +318,8 @@ impl Maker {
     #[cycle(making_expressions)]
     #[tactic(auto, unfolding(crate::specs::ExprMaking::call_made))]
     fn call(&mut self, args: &[BareArg], function: &BareExpr) -> Mem<Expr>
-        ensures made { Makes (spec.call_made self.old.free self.old.scopes (meaning function.now) (map arg_meaning args.now) self.old.lists) result self.new }
+        ensures made { Makes (spec.call_made self.old.free self.old.scopes (meaning function.now) (map
+            arg_meaning args.now) self.old.lists) result self.new }
         ensures same { Keeps result self.old self.new }
     {
         let function = self.boxed(function)?;
@@ -308,7 +330,8 @@ impl Maker {
     #[cycle(making_expressions)]
     #[tactic(auto, unfolding(crate::specs::ExprMaking::lambda_made))]
     fn lambda(&mut self, params: &[BareParam], body: &BareExpr, line: u64) -> Mem<Expr>
-        ensures made { Makes (spec.lambda_made self.old.free self.old.scopes (map param_meaning params.now) (meaning body.now) line self.old.lists) result self.new }
+        ensures made { Makes (spec.lambda_made self.old.free self.old.scopes (map param_meaning params.now)
+            (meaning body.now) line self.old.lists) result self.new }
         ensures same { Keeps result self.old self.new }
     {
         let place = self.lists.begin(self.alloc)?;
@@ -324,7 +347,8 @@ impl Maker {
     #[cycle(making_expressions)]
     #[tactic(auto, unfolding(crate::specs::ExprMaking::list_comp_made))]
     fn list_comp(&mut self, clauses: &[BareClause], item: &BareExpr) -> Mem<Expr>
-        ensures made { Makes (spec.list_comp_made self.old.free self.old.scopes (meaning item.now) (map clause_meaning clauses.now) self.old.lists) result self.new }
+        ensures made { Makes (spec.list_comp_made self.old.free self.old.scopes (meaning item.now) (map
+            clause_meaning clauses.now) self.old.lists) result self.new }
         ensures same { Keeps result self.old self.new }
     {
         self.scopes.enter(clause_variables(self.alloc, clauses)?)?;
@@ -337,7 +361,8 @@ impl Maker {
     #[cycle(making_expressions)]
     #[tactic(auto, unfolding(crate::specs::ExprMaking::dict_comp_made))]
     fn dict_comp(&mut self, clauses: &[BareClause], key: &BareExpr, value: &BareExpr) -> Mem<Expr>
-        ensures made { Makes (spec.dict_comp_made self.old.free self.old.scopes (meaning key.now) (meaning value.now) (map clause_meaning clauses.now) self.old.lists) result self.new }
+        ensures made { Makes (spec.dict_comp_made self.old.free self.old.scopes (meaning key.now) (meaning
+            value.now) (map clause_meaning clauses.now) self.old.lists) result self.new }
         ensures same { Keeps result self.old self.new }
     {
         self.scopes.enter(clause_variables(self.alloc, clauses)?)?;
@@ -356,7 +381,8 @@ impl Maker {
     #[cycle(making_expressions)]
     #[tactic(auto, unfolding(crate::specs::ExprMaking::clauses_made))]
     fn clauses(&mut self, clauses: &[BareClause]) -> Mem<Items<Clause>>
-        ensures made { Makes (spec.clauses_made self.old.free (outer self.old.scopes) self.old.scopes (map clause_meaning clauses.now) self.old.lists) result self.new }
+        ensures made { Makes (spec.clauses_made self.old.free (outer self.old.scopes) self.old.scopes (map
+            clause_meaning clauses.now) self.old.lists) result self.new }
         ensures same { Keeps result self.old self.new }
     {
         match clauses {
@@ -368,7 +394,9 @@ impl Maker {
     #[cycle(making_expressions)]
     #[tactic(auto, unfolding(crate::specs::ExprMaking::some_clauses_made))]
     fn some_clauses(&mut self, more: &[BareClause], first: &BareClause) -> Mem<Items<Clause>>
-        ensures made { Makes (spec.some_clauses_made self.old.free (outer self.old.scopes) self.old.scopes (clause_meaning first.now) (map clause_meaning more.now) self.old.lists) result self.new }
+        ensures made { Makes (spec.some_clauses_made self.old.free (outer self.old.scopes) self.old.scopes
+            (clause_meaning first.now)
+            (map clause_meaning more.now) self.old.lists) result self.new }
         ensures same { Keeps result self.old self.new }
     {
         let first = self.first_clause(first)?;
@@ -379,7 +407,8 @@ impl Maker {
     #[cycle(making_expressions)]
     #[tactic(auto, unfolding(crate::specs::ExprMaking::for_clause_made))]
     fn first_clause(&mut self, clause: &BareClause) -> Mem<Clause>
-        ensures made { Makes ((clause_meaning clause.now).clause self.old.free self.old.scopes (outer self.old.scopes) self.old.lists) result self.new }
+        ensures made { Makes ((clause_meaning clause.now).clause self.old.free self.old.scopes (outer
+            self.old.scopes) self.old.lists) result self.new }
         ensures same { Keeps result self.old self.new }
     {
         match clause {
@@ -395,7 +424,8 @@ impl Maker {
     /// The operand of the first `in`, outside the comprehension.
     #[cycle(making_expressions)]
     fn over(&mut self, over: &BareExpr) -> Mem<Expr>
-        ensures made { Makes ((meaning over.now).expr self.old.free (outer self.old.scopes) self.old.lists) result self.new }
+        ensures made { Makes ((meaning over.now).expr self.old.free (outer self.old.scopes) self.old.lists)
+            result self.new }
         ensures same { Keeps result self.old self.new }
     {
         match self.scopes.leave() {
@@ -411,7 +441,8 @@ impl Maker {
     #[cycle(making_expressions)]
     #[tactic(auto, using(crate::proofs::Walks::making_walks), unfolding(crate::specs::ExprMaking::more_clauses_made))]
     fn more_clauses(&mut self, clauses: &[BareClause]) -> Mem<Items<Clause>>
-        ensures made { Makes (spec.more_clauses_made self.old.free (outer self.old.scopes) self.old.scopes (map clause_meaning clauses.now) self.old.lists) result self.new }
+        ensures made { Makes (spec.more_clauses_made self.old.free (outer self.old.scopes) self.old.scopes (map
+            clause_meaning clauses.now) self.old.lists) result self.new }
         ensures same { Keeps result self.old self.new }
     {
         let mut made = Vec::new(self.alloc);
@@ -424,7 +455,8 @@ impl Maker {
     #[cycle(making_expressions)]
     #[tactic(auto, unfolding(crate::specs::ExprMaking::for_clause_made))]
     fn clause(&mut self, clause: &BareClause) -> Mem<Clause>
-        ensures made { Makes ((clause_meaning clause.now).clause self.old.free self.old.scopes self.old.scopes self.old.lists) result self.new }
+        ensures made { Makes ((clause_meaning clause.now).clause self.old.free self.old.scopes self.old.scopes
+            self.old.lists) result self.new }
         ensures same { Keeps result self.old self.new }
     {
         match clause {

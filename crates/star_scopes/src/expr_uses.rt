@@ -1,7 +1,8 @@
 //! The free names that expressions use, in the order of the text.
 ghost use Rattle.std.specs.Prelude.{◌≡◌, map, OnOk, option_map};
 ghost use Rattle.bz_text.specs.Answers.{Gives};
-ghost use Rattle.star_scopes.specs.ExprMeaning.{arg_meaning, clause_meaning, meaning, pair_meaning, param_meaning};
+ghost use Rattle.star_scopes.specs.ExprMeaning.{arg_meaning, clause_meaning, meaning, pair_meaning};
+ghost use Rattle.star_scopes.specs.ExprMeaning.{param_meaning};
 ghost use Rattle.star_scopes.specs.ExprUses as spec;
 ghost use Rattle.star_trees.specs.Variables.{outer};
 ghost use Rattle.star_scopes.specs.Meanings.{ClauseMeaning};
@@ -327,7 +328,8 @@ fn cond_uses(
     chosen: &BareExpr,
     other: &BareExpr,
 ) -> May<Names, Unbound>
-    ensures uses { Gives (spec.cond_uses dialect scopes.old (meaning test.now) (meaning chosen.now) (meaning other.now) names) result }
+    ensures uses { Gives (spec.cond_uses dialect scopes.old (meaning test.now) (meaning chosen.now) (meaning
+        other.now) names) result }
     ensures same { OnOk result (scopes.new ≡ scopes.old) }
 {
     let names = expr_uses(alloc, dialect, scopes, names, chosen)?;
@@ -344,7 +346,8 @@ fn call_uses(
     args: &[BareArg],
     function: &BareExpr,
 ) -> May<Names, Unbound>
-    ensures uses { Gives (spec.call_uses dialect scopes.old (meaning function.now) (map arg_meaning args.now) names) result }
+    ensures uses { Gives (spec.call_uses dialect scopes.old (meaning function.now) (map arg_meaning args.now)
+        names) result }
     ensures same { OnOk result (scopes.new ≡ scopes.old) }
 {
     let names = expr_uses(alloc, dialect, scopes, names, function)?;
@@ -361,7 +364,8 @@ fn lambda_uses(
     params: &[BareParam],
     body: &BareExpr,
 ) -> May<Names, Unbound>
-    ensures uses { Gives (spec.lambda_uses dialect scopes.old (map param_meaning params.now) (meaning body.now) names) result }
+    ensures uses { Gives (spec.lambda_uses dialect scopes.old (map param_meaning params.now) (meaning body.now)
+        names) result }
     ensures same { OnOk result (scopes.new ≡ scopes.old) }
 {
     let names = params_use(alloc, dialect, scopes, names, params)?;
@@ -381,7 +385,8 @@ fn list_comp_uses(
     clauses: &[BareClause],
     item: &BareExpr,
 ) -> May<Names, Unbound>
-    ensures uses { Gives (spec.list_comp_uses dialect scopes.old (meaning item.now) (map clause_meaning clauses.now) names) result }
+    ensures uses { Gives (spec.list_comp_uses dialect scopes.old (meaning item.now) (map clause_meaning
+        clauses.now) names) result }
     ensures same { OnOk result (scopes.new ≡ scopes.old) }
 {
     scopes.enter(clause_variables(alloc, clauses)?)?;
@@ -402,7 +407,8 @@ fn dict_comp_uses(
     key: &BareExpr,
     value: &BareExpr,
 ) -> May<Names, Unbound>
-    ensures uses { Gives (spec.dict_comp_uses dialect scopes.old (meaning key.now) (meaning value.now) (map clause_meaning clauses.now) names) result }
+    ensures uses { Gives (spec.dict_comp_uses dialect scopes.old (meaning key.now) (meaning value.now) (map
+        clause_meaning clauses.now) names) result }
     ensures same { OnOk result (scopes.new ≡ scopes.old) }
 {
     scopes.enter(clause_variables(alloc, clauses)?)?;
@@ -423,7 +429,8 @@ fn clauses_use(
     names: Names,
     clauses: &[BareClause],
 ) -> May<Names, Unbound>
-    ensures uses { Gives (spec.clauses_use dialect (outer scopes.old) scopes.old (map clause_meaning clauses.now) names) result }
+    ensures uses { Gives (spec.clauses_use dialect (outer scopes.old) scopes.old (map clause_meaning
+        clauses.now) names) result }
     ensures same { OnOk result (scopes.new ≡ scopes.old) }
 {
     match clauses {
@@ -487,7 +494,8 @@ fn more_clauses_use(
     names: Names,
     clauses: &[BareClause],
 ) -> May<Names, Unbound>
-    ensures uses { Gives (each_uses (map (λ (clause : ClauseMeaning). clause.uses dialect scopes.old scopes.old) (map clause_meaning clauses.now)) names) result }
+    ensures uses { Gives (each_uses (map (λ (clause : ClauseMeaning). clause.uses dialect scopes.old
+        scopes.old) (map clause_meaning clauses.now)) names) result }
     ensures same { OnOk result (scopes.new ≡ scopes.old) }
 {
     let mut names = names;

@@ -44,7 +44,8 @@ fn file_with(alloc: Global, free: Names, body: &[BareStmt]) -> Mem<File>
     })
 }
 
-/// The file with each name as its variable, unless one is unbound: then the first use of such a name.
+/// The file with each name as its variable, unless one is unbound: then the first use of such a
+/// name.
 pub fn resolved(alloc: Global, dialect: Dialect, body: &[BareStmt]) -> May<File, Unbound>
     ensures { Gives (spec.resolved dialect body.now) result }
 {

@@ -9,7 +9,8 @@ use star_names::{Names, Scopes};
 use star_trees::Var;
 use std::alloc::Global;
 
-/// The file's free names, the scopes round the place that is reached, and the functions and loads so far.
+/// The file's free names, the scopes round the place that is reached, and the functions and loads
+/// so far.
 #[derive(Drop)]
 pub(crate) struct Maker {
     pub(crate) alloc: Global,
@@ -20,7 +21,8 @@ pub(crate) struct Maker {
 
 impl Maker {
     pub(crate) fn variable(&self, name: &Txt) -> Mem<Var>
-        ensures { IfOk result (λ variable. variable ≡ spec.variable self.now.free self.now.scopes name.now) }
+        ensures { IfOk result (λ variable. variable ≡ spec.variable self.now.free self.now.scopes
+            name.now) }
     {
         variable(self.alloc, &self.free, &self.scopes, name)
     }

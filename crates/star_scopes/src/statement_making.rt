@@ -18,7 +18,8 @@ impl Maker {
     #[cycle(making_statements)]
     #[tactic(auto, using(crate::proofs::Walks::making_walks), unfolding(crate::specs::StatementMaking::body_made))]
     pub(crate) fn body_made(&mut self, body: &[BareStmt]) -> Mem<Items<Stmt>>
-        ensures made { Makes (spec.body_made self.old.free self.old.scopes (map stmt_meaning body.now) self.old.lists) result self.new }
+        ensures made { Makes (spec.body_made self.old.free self.old.scopes (map stmt_meaning body.now)
+            self.old.lists) result self.new }
         ensures same { Keeps result self.old self.new }
     {
         let mut made = Vec::new(self.alloc);
@@ -31,7 +32,8 @@ impl Maker {
     #[cycle(making_statements)]
     #[tactic(auto, using(crate::proofs::StatementLayers::statement_lines), unfolding(crate::specs::StatementMaking::stmt_made))]
     fn statement(&mut self, statement: &BareStmt) -> Mem<Stmt>
-        ensures made { Makes ((stmt_meaning statement.now).stmt self.old.free self.old.scopes self.old.lists) result self.new }
+        ensures made { Makes ((stmt_meaning statement.now).stmt self.old.free self.old.scopes self.old.lists)
+            result self.new }
         ensures same { Keeps result self.old self.new }
     {
         let kind = self.kind(&statement.kind, statement.line)?;
@@ -43,7 +45,8 @@ impl Maker {
 
     #[cycle(making_statements)]
     fn kind(&mut self, kind: &BareStmtKind, line: u64) -> Mem<StmtKind>
-        ensures made { Makes ((kind_meaning kind.now).kind line self.old.free self.old.scopes self.old.lists) result self.new }
+        ensures made { Makes ((kind_meaning kind.now).kind line self.old.free self.old.scopes self.old.lists)
+            result self.new }
         ensures same { Keeps result self.old self.new }
     {
         match kind {
@@ -77,7 +80,8 @@ impl Maker {
         params: &[BareParam],
         line: u64,
     ) -> Mem<StmtKind>
-        ensures made { Makes (spec.def_made self.old.free self.old.scopes name.now params.now (map stmt_meaning body.now) line self.old.lists) result self.new }
+        ensures made { Makes (spec.def_made self.old.free self.old.scopes name.now params.now (map stmt_meaning
+            body.now) line self.old.lists) result self.new }
         ensures same { Keeps result self.old self.new }
     {
         let place = self.lists.begin(self.alloc)?;
@@ -98,7 +102,8 @@ impl Maker {
     #[cycle(making_statements)]
     #[tactic(auto, unfolding(crate::specs::StatementMaking::for_made))]
     fn looped(&mut self, body: &[BareStmt], to: &BareExpr, over: &BareExpr) -> Mem<StmtKind>
-        ensures made { Makes (spec.for_made self.old.free self.old.scopes to.now over.now (map stmt_meaning body.now) self.old.lists) result self.new }
+        ensures made { Makes (spec.for_made self.old.free self.old.scopes to.now over.now (map stmt_meaning
+            body.now) self.old.lists) result self.new }
         ensures same { Keeps result self.old self.new }
     {
         let to = self.target(to)?;
@@ -109,7 +114,8 @@ impl Maker {
 
     #[tactic(auto, unfolding(crate::specs::StatementMaking::return_made))]
     fn returned(&mut self, value: &Option<BareExpr>) -> Mem<StmtKind>
-        ensures made { Makes (spec.return_made self.old.free self.old.scopes value.now self.old.lists) result self.new }
+        ensures made { Makes (spec.return_made self.old.free self.old.scopes value.now self.old.lists) result
+            self.new }
         ensures same { Keeps result self.old self.new }
     {
         match value {
@@ -130,7 +136,8 @@ impl Maker {
 
     #[tactic(auto, unfolding(crate::specs::StatementMaking::assign_made))]
     fn assign(&mut self, to: &BareExpr, value: &BareExpr) -> Mem<StmtKind>
-        ensures made { Makes (spec.assign_made self.old.free self.old.scopes to.now value.now self.old.lists) result self.new }
+        ensures made { Makes (spec.assign_made self.old.free self.old.scopes to.now value.now self.old.lists)
+            result self.new }
         ensures same { Keeps result self.old self.new }
     {
         let to = self.target(to)?;
@@ -140,7 +147,8 @@ impl Maker {
 
     #[tactic(auto, unfolding(crate::specs::StatementMaking::augment_made))]
     fn augment(&mut self, place: &BareExpr, op: BinOp, value: &BareExpr) -> Mem<StmtKind>
-        ensures made { Makes (spec.augment_made self.old.free self.old.scopes place.now op value.now self.old.lists) result self.new }
+        ensures made { Makes (spec.augment_made self.old.free self.old.scopes place.now op value.now
+            self.old.lists) result self.new }
         ensures same { Keeps result self.old self.new }
     {
         let place = self.expr(place)?;

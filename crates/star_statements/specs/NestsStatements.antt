@@ -13,7 +13,17 @@ use Rattle.star_expressions.specs.Reads.{Reads}
 
 -- it may always be called, and gives what the definition gives at this nesting
 pub record NestsStatements (nesting : ℕ) (pre : Global → MutBor Cursor → ℕ → Part → Inside → Type 0)
-    (post : Global → MutBor Cursor → ℕ → Part → Inside → Result (List BareStmt × ℕ) (Miss NoTree) → MutBor Cursor → Type 0) : Type 0 where
-  pub callable : (alloc : Global) (old : MutBor Cursor) (what : Part) (inside : Inside) → pre alloc old nesting what inside
-  pub reads : (alloc : Global) (old new : MutBor Cursor) (what : Part) (inside : Inside) (result : Result (List BareStmt × ℕ) (Miss NoTree)) → post alloc old nesting what inside result new
+    (post : Global
+    → MutBor Cursor
+    → ℕ
+    → Part
+    → Inside
+    → Result (List BareStmt × ℕ) (Miss NoTree)
+    → MutBor Cursor
+    → Type 0) : Type 0 where
+  pub callable : (alloc : Global) (old : MutBor Cursor) (what : Part) (inside : Inside)
+      → pre alloc old nesting what inside
+  pub reads : (alloc : Global) (old new : MutBor Cursor) (what : Part) (inside : Inside)
+      (result : Result (List BareStmt × ℕ) (Miss NoTree))
+      → post alloc old nesting what inside result new
       → Reads (stands nesting what inside old.now.rest.now) result new.now.rest.now

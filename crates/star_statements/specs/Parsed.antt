@@ -11,7 +11,8 @@ use Rattle.star_grammar.specs.Texts.{Spelled}
 use Rattle.star_statements.specs.declared.trees.TreeFault.{TreeFault}
 use Rattle.star_statements.specs.declared.trees.TreeFault.TheVariants.{Lex, Syntax}
 
--- the tree that the text spells; Lex exactly where it has no tokens, Syntax exactly where it has tokens and spells no tree
+-- the tree that the text spells; Lex exactly where it has no tokens, Syntax exactly where it has
+-- tokens and spells no tree
 abbrev pub IsTree : List ℕ → Result BareFile TreeFault → Type 0
 IsTree text (Ok tree) = Spelled text tree
 IsTree text (Err (Lex hint)) = (tokens : List Token) → Lexes text tokens → ⊥

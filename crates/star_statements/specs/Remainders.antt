@@ -12,7 +12,8 @@ use Rattle.star_grammar.specs.declared.symbols.Sign.TheVariants as s
 use Rattle.star_grammar.specs.Expressions.{Tree}
 use Rattle.star_grammar.specs.ExpressionReading.{expression}
 use Rattle.star_grammar.specs.Operators.{augmented}
-use Rattle.star_grammar.specs.Readers.{Reader, ◌>>=◌, ◌>>◌, expect, front_of, given, one, pure, sees, skip}
+use Rattle.star_grammar.specs.Readers.{Reader, ◌>>=◌, ◌>>◌, expect, front_of, given, one, pure}
+use Rattle.star_grammar.specs.Readers.{sees, skip}
 use Rattle.star_grammar.specs.Rules.{Deep, deep}
 use Rattle.star_grammar.specs.StatementReading as spec
 use Rattle.star_grammar.specs.Statements.{Statements, on_line}

@@ -1,4 +1,5 @@
-//! The parser of Starlark's statements and files: one method a production, in the grammar's order, from the tokens of a text to the tree that it spells.
+//! The parser of Starlark's statements and files: one method a production, in the grammar's order,
+//! from the tokens of a text to the tree that it spells.
 #![tactic(auto)]
 
 mod files;

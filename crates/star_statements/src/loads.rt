@@ -56,7 +56,8 @@ fn loaded(alloc: Global, symbols: &mut Cursor<'_>) -> May<(BareLoadName, usize),
 /// `{',' [identifier '='] string}`
 #[tactic(auto, unfolding(star_grammar::specs::Readers::rounds))]
 fn more_loaded(alloc: Global, symbols: &mut Cursor<'_>) -> May<(Seq<BareLoadName>, usize), NoTree>
-    ensures { Reads (more s.Comma (Some s.RightRound) spec.loaded ([], 0) symbols.old.rest.now) result symbols.new.rest.now }
+    ensures { Reads (more s.Comma (Some s.RightRound) spec.loaded ([], 0) symbols.old.rest.now) result
+        symbols.new.rest.now }
 {
     let mut names = Vec::new(alloc);
     let mut depth = 0;

@@ -1,4 +1,5 @@
-//! Small statements, and lines of them: `Simple = Small {';' Small} [';'] newline`. Their expressions nest in them, so many constructs at most.
+//! Small statements, and lines of them: `Simple = Small {';' Small} [';'] newline`. Their
+//! expressions nest in them, so many constructs at most.
 ghost use Rattle.std.specs.Prelude.{◌≡◌, Some};
 ghost use Rattle.star_grammar.specs.ExpressionReading.{reads};
 ghost use Rattle.star_grammar.specs.Readers as readers;
@@ -28,7 +29,8 @@ fn returned_value(
     nesting: usize,
     line: u64,
 ) -> May<(BareStmt, usize), NoTree>
-    ensures { Reads (spec.returned_value (reads nesting) line symbols.old.rest.now) result symbols.new.rest.now }
+    ensures { Reads (spec.returned_value (reads nesting) line symbols.old.rest.now) result
+        symbols.new.rest.now }
 {
     let (value, depth) = test_list(alloc, symbols, nesting)?;
     let kind = BareStmtKind::Return(Some(value));
@@ -44,7 +46,8 @@ fn returned(
     inside: Inside,
     line: u64,
 ) -> May<(BareStmt, usize), NoTree>
-    ensures { Reads (spec.returned (reads nesting) inside line symbols.old.rest.now) result symbols.new.rest.now }
+    ensures { Reads (spec.returned (reads nesting) inside line symbols.old.rest.now) result
+        symbols.new.rest.now }
 {
     checked(inside.function)?;
     if symbols.sees(Sign::Semicolon) || symbols.sees(Sign::Newline) {
@@ -63,7 +66,8 @@ fn assigned(
     line: u64,
     to: HeldTree,
 ) -> May<(BareStmt, usize), NoTree>
-    ensures { Reads (spec.assigned (reads nesting) line to symbols.old.rest.now) result symbols.new.rest.now }
+    ensures { Reads (spec.assigned (reads nesting) line to symbols.old.rest.now) result
+        symbols.new.rest.now }
 {
     checked(is_target(&to.get().0))?;
     let (value, own) = test_list(alloc, symbols, nesting)?;
@@ -82,7 +86,8 @@ fn changed(
     place: HeldTree,
     op: BinOp,
 ) -> May<(BareStmt, usize), NoTree>
-    ensures { Reads (spec.changed (reads nesting) line place op symbols.old.rest.now) result symbols.new.rest.now }
+    ensures { Reads (spec.changed (reads nesting) line place op symbols.old.rest.now) result
+        symbols.new.rest.now }
 {
     symbols.skip();
     checked(is_place(&place.get().0))?;
@@ -108,7 +113,8 @@ fn behind_expression(
     line: u64,
     first: (BareExpr, usize),
 ) -> May<(BareStmt, usize), NoTree>
-    ensures { Reads (behind_expression (reads nesting) line first symbols.old.rest.now) result symbols.new.rest.now }
+    ensures { Reads (behind_expression (reads nesting) line first symbols.old.rest.now) result
+        symbols.new.rest.now }
 {
     if symbols.eat(Sign::Assign) {
         return assigned(alloc, symbols, nesting, line, Held::new(first));
@@ -135,7 +141,8 @@ fn valued(
 
 /// A word, where it may stand.
 fn jump(symbols: &mut Cursor<'_>, allowed: bool) -> May<(), NoTree>
-    ensures { Reads (readers.checked allowed (readers.behind symbols.old.rest.now)) result symbols.new.rest.now }
+    ensures { Reads (readers.checked allowed (readers.behind symbols.old.rest.now)) result
+        symbols.new.rest.now }
 {
     symbols.skip();
     checked(allowed)
@@ -196,7 +203,8 @@ fn more_small(
     inside: Inside,
     first: (BareStmt, usize),
 ) -> May<(Items<BareStmt>, usize), NoTree>
-    ensures { Reads (more s.Semicolon (Some s.Newline) (spec.small (reads nesting) inside) (one first) symbols.old.rest.now) result symbols.new.rest.now }
+    ensures { Reads (more s.Semicolon (Some s.Newline) (spec.small (reads nesting) inside) (one first)
+        symbols.old.rest.now) result symbols.new.rest.now }
 {
     let (statement, mut depth) = first;
     let mut body = only(alloc, statement)?;

@@ -1,4 +1,5 @@
-//! Statements with suites. The rules take the parser of nested statements as a value, so that each is proved by itself.
+//! Statements with suites. The rules take the parser of nested statements as a value, so that each
+//! is proved by itself.
 ghost use Rattle.std.specs.Prelude.{◌≡◌, [], max, not};
 ghost use Rattle.star_grammar.specs.ExpressionReading.{reads};
 ghost use Rattle.star_grammar.specs.Readers.{joins, sees, turns};
@@ -68,7 +69,8 @@ fn loop_statement(
     over: HeldTree,
     body: (Items<BareStmt>, usize),
 ) -> May<(BareStmt, usize), NoTree>
-    ensures { Finds (deep (on_line line (st.For to.0 over.0 body.0)) (max to.1 (max over.1 body.1))) result }
+    ensures { Finds (deep (on_line line (st.For to.0 over.0 body.0)) (max to.1 (max over.1 body.1)))
+        result }
 {
     let (to, depth) = to.release();
     let (over, own) = over.release();
@@ -101,7 +103,8 @@ impl<
         inside: Inside,
     ) -> May<(Items<BareStmt>, usize), NoTree>
         requires { NestsStatements self.now.nesting (F.pre self.now.nested) (F.post self.now.nested) }
-        ensures { Reads (stands self.now.nesting part inside symbols.old.rest.now) result symbols.new.rest.now }
+        ensures { Reads (stands self.now.nesting part inside symbols.old.rest.now) result
+            symbols.new.rest.now }
     {
         (self.nested)(self.alloc, symbols, self.nesting, part, inside)
     }
@@ -114,7 +117,8 @@ impl<
         inside: Inside,
     ) -> May<(Items<BareStmt>, usize), NoTree>
         requires { NestsStatements self.now.nesting (F.pre self.now.nested) (F.post self.now.nested) }
-        ensures { Reads (turns (λ i. not (sees s.Outdent i)) (joins (stands self.now.nesting part.Statement inside)) ([], 0) symbols.old.rest.now) result symbols.new.rest.now }
+        ensures { Reads (turns (λ i. not (sees s.Outdent i)) (joins (stands self.now.nesting
+            part.Statement inside)) ([], 0) symbols.old.rest.now) result symbols.new.rest.now }
     {
         let mut body = Items::new(self.alloc);
         let mut depth = 0;
@@ -137,7 +141,8 @@ impl<
         inside: Inside,
     ) -> May<(Items<BareStmt>, usize), NoTree>
         requires { NestsStatements self.now.nesting (F.pre self.now.nested) (F.post self.now.nested) }
-        ensures { Reads (spec.block (reads self.now.nesting) (stands self.now.nesting) inside symbols.old.rest.now) result symbols.new.rest.now }
+        ensures { Reads (spec.block (reads self.now.nesting) (stands self.now.nesting) inside
+            symbols.old.rest.now) result symbols.new.rest.now }
     {
         symbols.expect(Sign::Indent)?;
         let body = self.statements(symbols, inside)?;
@@ -153,7 +158,8 @@ impl<
         inside: Inside,
     ) -> May<(Items<BareStmt>, usize), NoTree>
         requires { NestsStatements self.now.nesting (F.pre self.now.nested) (F.post self.now.nested) }
-        ensures { Reads (spec.suite (reads self.now.nesting) (stands self.now.nesting) inside symbols.old.rest.now) result symbols.new.rest.now }
+        ensures { Reads (spec.suite (reads self.now.nesting) (stands self.now.nesting) inside
+            symbols.old.rest.now) result symbols.new.rest.now }
     {
         if symbols.eat(Sign::Newline) {
             self.block(symbols, inside)
@@ -170,7 +176,8 @@ impl<
         inside: Inside,
     ) -> May<(Items<BareStmt>, usize), NoTree>
         requires { NestsStatements self.now.nesting (F.pre self.now.nested) (F.post self.now.nested) }
-        ensures { Reads (spec.last_branch (reads self.now.nesting) (stands self.now.nesting) inside symbols.old.rest.now) result symbols.new.rest.now }
+        ensures { Reads (spec.last_branch (reads self.now.nesting) (stands self.now.nesting) inside
+            symbols.old.rest.now) result symbols.new.rest.now }
     {
         symbols.expect(Sign::Colon)?;
         self.suite(symbols, in_branch(inside))
@@ -184,7 +191,8 @@ impl<
         inside: Inside,
     ) -> May<(Items<BareStmt>, usize), NoTree>
         requires { NestsStatements self.now.nesting (F.pre self.now.nested) (F.post self.now.nested) }
-        ensures { Reads (spec.otherwise (reads self.now.nesting) (stands self.now.nesting) inside symbols.old.rest.now) result symbols.new.rest.now }
+        ensures { Reads (spec.otherwise (reads self.now.nesting) (stands self.now.nesting) inside
+            symbols.old.rest.now) result symbols.new.rest.now }
     {
         if symbols.sees(Sign::Elif) {
             self.nested(symbols, Part::Elif, inside)
@@ -204,7 +212,8 @@ impl<
         line: u64,
     ) -> May<(Items<BareStmt>, usize), NoTree>
         requires { NestsStatements self.now.nesting (F.pre self.now.nested) (F.post self.now.nested) }
-        ensures { Reads (spec.branch (reads self.now.nesting) (stands self.now.nesting) inside line symbols.old.rest.now) result symbols.new.rest.now }
+        ensures { Reads (spec.branch (reads self.now.nesting) (stands self.now.nesting) inside line
+            symbols.old.rest.now) result symbols.new.rest.now }
     {
         let test = expression(self.alloc, symbols, self.nesting, Level::Test)?;
         let test = Held::new(test);
@@ -227,7 +236,8 @@ impl<
         over: HeldTree,
     ) -> May<(Items<BareStmt>, usize), NoTree>
         requires { NestsStatements self.now.nesting (F.pre self.now.nested) (F.post self.now.nested) }
-        ensures { Reads (loop_body (reads self.now.nesting) (stands self.now.nesting) inside line to over symbols.old.rest.now) result symbols.new.rest.now }
+        ensures { Reads (loop_body (reads self.now.nesting) (stands self.now.nesting) inside line to over
+            symbols.old.rest.now) result symbols.new.rest.now }
     {
         let body = self.suite(symbols, in_loop(inside))?;
         let (statement, depth) = loop_statement(line, to, over, body)?;
@@ -243,7 +253,8 @@ impl<
         to: HeldTree,
     ) -> May<(Items<BareStmt>, usize), NoTree>
         requires { NestsStatements self.now.nesting (F.pre self.now.nested) (F.post self.now.nested) }
-        ensures { Reads (loop_over (reads self.now.nesting) (stands self.now.nesting) inside line to symbols.old.rest.now) result symbols.new.rest.now }
+        ensures { Reads (loop_over (reads self.now.nesting) (stands self.now.nesting) inside line to
+            symbols.old.rest.now) result symbols.new.rest.now }
     {
         let over = Held::new(test_list(self.alloc, symbols, self.nesting)?);
         symbols.expect(Sign::Colon)?;
@@ -258,7 +269,8 @@ impl<
         line: u64,
     ) -> May<(Items<BareStmt>, usize), NoTree>
         requires { NestsStatements self.now.nesting (F.pre self.now.nested) (F.post self.now.nested) }
-        ensures { Reads (spec.loop (reads self.now.nesting) (stands self.now.nesting) inside line symbols.old.rest.now) result symbols.new.rest.now }
+        ensures { Reads (spec.loop (reads self.now.nesting) (stands self.now.nesting) inside line
+            symbols.old.rest.now) result symbols.new.rest.now }
     {
         let to = Held::new(target_list(self.alloc, symbols, self.nesting)?);
         symbols.expect(Sign::In)?;
@@ -274,7 +286,8 @@ impl<
         params: (Items<BareParam>, usize),
     ) -> May<(Items<BareStmt>, usize), NoTree>
         requires { NestsStatements self.now.nesting (F.pre self.now.nested) (F.post self.now.nested) }
-        ensures { Reads (def_body (reads self.now.nesting) (stands self.now.nesting) name line params symbols.old.rest.now) result symbols.new.rest.now }
+        ensures { Reads (def_body (reads self.now.nesting) (stands self.now.nesting) name line params
+            symbols.old.rest.now) result symbols.new.rest.now }
     {
         let body = self.suite(symbols, in_function())?;
         let (statement, depth) = def_statement(line, name, params, body)?;
@@ -291,7 +304,8 @@ impl<
         line: u64,
     ) -> May<(Items<BareStmt>, usize), NoTree>
         requires { NestsStatements self.now.nesting (F.pre self.now.nested) (F.post self.now.nested) }
-        ensures { Reads (spec.defined (reads self.now.nesting) (stands self.now.nesting) name named_on line symbols.old.rest.now) result symbols.new.rest.now }
+        ensures { Reads (spec.defined (reads self.now.nesting) (stands self.now.nesting) name named_on
+            line symbols.old.rest.now) result symbols.new.rest.now }
     {
         symbols.expect(Sign::LeftRound)?;
         let (params, depth) = listed_params(self.alloc, symbols, self.nesting)?;
@@ -312,7 +326,8 @@ impl<
         line: u64,
     ) -> May<(Items<BareStmt>, usize), NoTree>
         requires { NestsStatements self.now.nesting (F.pre self.now.nested) (F.post self.now.nested) }
-        ensures { Reads (spec.definition (reads self.now.nesting) (stands self.now.nesting) line symbols.old.rest.now) result symbols.new.rest.now }
+        ensures { Reads (spec.definition (reads self.now.nesting) (stands self.now.nesting) line
+            symbols.old.rest.now) result symbols.new.rest.now }
     {
         let named_on = symbols.line();
         let name = symbols.name(self.alloc)?;
@@ -327,7 +342,8 @@ impl<
         inside: Inside,
     ) -> May<(Items<BareStmt>, usize), NoTree>
         requires { NestsStatements self.now.nesting (F.pre self.now.nested) (F.post self.now.nested) }
-        ensures { Reads (spec.statement (reads self.now.nesting) (stands self.now.nesting) inside symbols.old.rest.now) result symbols.new.rest.now }
+        ensures { Reads (spec.statement (reads self.now.nesting) (stands self.now.nesting) inside
+            symbols.old.rest.now) result symbols.new.rest.now }
     {
         let line = symbols.line();
         if symbols.eat(Sign::Def) {
@@ -349,7 +365,8 @@ impl<
         inside: Inside,
     ) -> May<(Items<BareStmt>, usize), NoTree>
         requires { NestsStatements self.now.nesting (F.pre self.now.nested) (F.post self.now.nested) }
-        ensures { Reads (spec.elif (reads self.now.nesting) (stands self.now.nesting) inside symbols.old.rest.now) result symbols.new.rest.now }
+        ensures { Reads (spec.elif (reads self.now.nesting) (stands self.now.nesting) inside
+            symbols.old.rest.now) result symbols.new.rest.now }
     {
         let line = symbols.line();
         symbols.expect(Sign::Elif)?;
@@ -363,7 +380,8 @@ impl<
         inside: Inside,
     ) -> May<(Items<BareStmt>, usize), NoTree>
         requires { NestsStatements self.now.nesting (F.pre self.now.nested) (F.post self.now.nested) }
-        ensures { Reads (spec.of (reads self.now.nesting) (stands self.now.nesting) part inside symbols.old.rest.now) result symbols.new.rest.now }
+        ensures { Reads (spec.of (reads self.now.nesting) (stands self.now.nesting) part inside
+            symbols.old.rest.now) result symbols.new.rest.now }
     {
         match part {
             Part::Statement => self.statement(symbols, inside),

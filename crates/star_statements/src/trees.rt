@@ -12,7 +12,8 @@ use star_grammar::{BareFile, Symbol};
 use star_lex::{LexFault, Token, tokens};
 use std::alloc::Global;
 
-/// Why a text has no tree: it has no tokens, or its tokens spell none. The hint is the line to look at.
+/// Why a text has no tree: it has no tokens, or its tokens spell none. The hint is the line to look
+/// at.
 #[derive(Clone, Copy, Debug, PartialEq, Eq)]
 pub enum TreeFault {
     Lex { hint: u64 },

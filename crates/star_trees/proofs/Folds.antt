@@ -1,6 +1,7 @@
 -- The value of a tree of each construct, by those of its parts.
 use Rattle.std.proofs.Common.{rules, ◌≡◌, ℕ, ℤ, List, map, Option, option_map}
-use Rattle.star_trees.specs.Folds.{ExprValues, StmtValues, fold_arg, fold_clause, fold_expr, fold_kind, fold_pair, fold_stmt, fold_target}
+use Rattle.star_trees.specs.Folds.{ExprValues, StmtValues, fold_arg, fold_clause, fold_expr}
+use Rattle.star_trees.specs.Folds.{fold_kind, fold_pair, fold_stmt, fold_target}
 use Rattle.star_trees.specs.declared.trees.Arg as arg
 use Rattle.star_trees.specs.declared.trees.Arg.{Arg}
 use Rattle.star_trees.specs.declared.trees.Arg.TheOpen.{Arg-F, Clause-F, Expr-F, Target-F}

@@ -1,6 +1,7 @@
 -- The variables of a file's trees, counted again from the trees alone: the Starlark specification,
 -- "Name binding and variables".
-use Rattle.std.specs.Prelude.{◌≡◌, ℕ, ◌<◌, Bool, true, false, ◌&&◌, eqb, bytes_eq, List, [], ◌∷◌, ◌++◌, length, get_or, map, Option, Some, None, option_map, EachIndex}
+use Rattle.std.specs.Prelude.{◌≡◌, ℕ, ◌<◌, Bool, true, false, ◌&&◌, eqb, bytes_eq, List, [], ◌∷◌}
+use Rattle.std.specs.Prelude.{◌++◌, length, get_or, map, Option, Some, None, option_map, EachIndex}
 use Rattle.std.specs.Cmp.Lexicographic.{pointwise}
 use Rattle.star_trees.specs.declared.files.File.{File}
 use Rattle.star_trees.specs.declared.files.FnBody.{FnBody}
@@ -10,11 +11,14 @@ use Rattle.star_trees.specs.declared.files.Param.{Param}
 use Rattle.star_trees.specs.declared.files.Param.TheVariants as param
 use Rattle.star_trees.specs.declared.loads.Load.{Load}
 use Rattle.star_trees.specs.declared.loads.LoadName.{LoadName}
-use Rattle.star_trees.specs.declared.trees.Arg.TheOpen.{Arg-F, Clause-F, Expr-F, ExprPair-F, Target-F}
+use Rattle.star_trees.specs.declared.trees.Arg.TheOpen.{Arg-F, Clause-F, Expr-F, ExprPair-F}
+use Rattle.star_trees.specs.declared.trees.Arg.TheOpen.{Target-F}
 use Rattle.star_trees.specs.declared.trees.StmtKind.TheOpen.{StmtKind-F}
-use Rattle.star_trees.specs.Variables.{Names, scope_and_slot, slot_of, Binding, no_binding, each_binds, name_binds, function_variables, variables}
+use Rattle.star_trees.specs.Variables.{Names, scope_and_slot, slot_of, Binding, no_binding}
+use Rattle.star_trees.specs.Variables.{each_binds, name_binds, function_variables, variables}
 use Rattle.star_trees.specs.Functions.{unfinished_code}
-use Rattle.star_trees.specs.Folds.{ExprValues, StmtValues, fold_arg, fold_clause, fold_expr, fold_kind, fold_pair, fold_stmt, fold_target}
+use Rattle.star_trees.specs.Folds.{ExprValues, StmtValues, fold_arg, fold_clause, fold_expr}
+use Rattle.star_trees.specs.Folds.{fold_kind, fold_pair, fold_stmt, fold_target}
 use Rattle.star_trees.specs.declared.trees.Arg.{Arg}
 use Rattle.star_trees.specs.declared.trees.Clause.{Clause}
 use Rattle.star_trees.specs.declared.trees.Expr.{Expr}

@@ -1,7 +1,8 @@
 -- Values that are given to trees, from the leaves up: a construct's value is told by those of its
 -- parts.
 use Rattle.star_trees.specs.declared.trees.Arg.{Arg, fold-Arg}
-use Rattle.star_trees.specs.declared.trees.Arg.TheOpen.{Arg-F, Clause-F, Expr-F, ExprPair-F, Target-F}
+use Rattle.star_trees.specs.declared.trees.Arg.TheOpen.{Arg-F, Clause-F, Expr-F, ExprPair-F}
+use Rattle.star_trees.specs.declared.trees.Arg.TheOpen.{Target-F}
 use Rattle.star_trees.specs.declared.trees.Clause.{Clause, fold-Clause}
 use Rattle.star_trees.specs.declared.trees.Expr.{Expr, fold-Expr}
 use Rattle.star_trees.specs.declared.trees.ExprPair.{ExprPair, fold-ExprPair}

@@ -1,5 +1,6 @@
 -- What the grammar asks of lists: names that differ, and tests that hold of each item.
-use Rattle.std.specs.Prelude.{ℕ, Bool, true, false, not, ◌&&◌, ◌||◌, ◌==◌, nat_lt, nat_le, List, [], ◌∷◌, Option, Some, None, bytes_eq}
+use Rattle.std.specs.Prelude.{ℕ, Bool, true, false, not, ◌&&◌, ◌||◌, ◌==◌, nat_lt, nat_le, List, []}
+use Rattle.std.specs.Prelude.{◌∷◌, Option, Some, None, bytes_eq}
 use Rattle.std.specs.List.{list_any}
 
 -- each name differs from those before it

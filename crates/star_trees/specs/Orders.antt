@@ -2,19 +2,22 @@
 -- parameters, names that differ, and what may stand only in a function, in a loop or at the top.
 -- The Starlark specification, "Function and method calls", "Function definitions", "Assignments",
 -- "Statements".
-use Rattle.std.specs.Prelude.{◌≡◌, ℕ, Bool, true, false, ◌&&◌, ◌==◌, nat_le, if◌then◌else◌, List, [], ◌∷◌, map, Option, Some, None, option_map}
+use Rattle.std.specs.Prelude.{◌≡◌, ℕ, Bool, true, false, ◌&&◌, ◌==◌, nat_le, if◌then◌else◌, List}
+use Rattle.std.specs.Prelude.{[], ◌∷◌, map, Option, Some, None, option_map}
 use Rattle.star_trees.specs.declared.files.File.{File}
 use Rattle.star_trees.specs.declared.files.FnBody.{FnBody}
 use Rattle.star_trees.specs.declared.files.FnBody.TheVariants as body
 use Rattle.star_trees.specs.declared.files.FnCode.{FnCode}
 use Rattle.star_trees.specs.declared.files.Param.{Param}
 use Rattle.star_trees.specs.declared.files.Param.TheVariants as param
-use Rattle.star_trees.specs.declared.trees.Arg.TheOpen.{Arg-F, Clause-F, Expr-F, ExprPair-F, Target-F}
+use Rattle.star_trees.specs.declared.trees.Arg.TheOpen.{Arg-F, Clause-F, Expr-F, ExprPair-F}
+use Rattle.star_trees.specs.declared.trees.Arg.TheOpen.{Target-F}
 use Rattle.star_trees.specs.declared.trees.StmtKind.TheOpen.{StmtKind-F}
 use Rattle.star_trees.specs.declared.inside.Inside.{Inside}
 use Rattle.star_trees.specs.Lists.{all_different, all_of, may_follow, some_and_all, with_name}
 use Rattle.star_trees.specs.Surroundings.{at_top, in_branch, in_function, in_loop}
-use Rattle.star_trees.specs.Folds.{ExprValues, StmtValues, fold_arg, fold_clause, fold_expr, fold_kind, fold_pair, fold_stmt, fold_target}
+use Rattle.star_trees.specs.Folds.{ExprValues, StmtValues, fold_arg, fold_clause, fold_expr}
+use Rattle.star_trees.specs.Folds.{fold_kind, fold_pair, fold_stmt, fold_target}
 use Rattle.star_trees.specs.declared.trees.Arg.{Arg}
 use Rattle.star_trees.specs.declared.trees.Clause.{Clause}
 use Rattle.star_trees.specs.declared.trees.Expr.{Expr, out-Expr}

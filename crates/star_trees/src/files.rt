@@ -4,7 +4,9 @@ use crate::trees::{Expr, Stmt};
 use bz_text::{Seq, Txt};
 use sqlite_items::{Boxed, Items};
 
-/// The tree of a file. `functions` has every `def` and `lambda` in the order in which they begin in the text, `loads` is in the text's order, and `free` has each free name once, in order of first use.
+/// The tree of a file. `functions` has every `def` and `lambda` in the order in which they begin in
+/// the text, `loads` is in the text's order, and `free` has each free name once, in order of first
+/// use.
 #[derive(Drop)]
 pub struct File {
     pub body: Items<Stmt>,

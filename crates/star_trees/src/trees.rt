@@ -1,8 +1,11 @@
-//! Statements and expressions as they are written. Brackets alone leave no trace, and an `elif` is an `If` alone in the `other` of the one before it. `Items` and `Boxed` stand for lists and boxes, so that trees are compared by what they hold.
+//! Statements and expressions as they are written. Brackets alone leave no trace, and an `elif` is
+//! an `If` alone in the `other` of the one before it. `Items` and `Boxed` stand for lists and
+//! boxes, so that trees are compared by what they hold.
 use bz_text::Txt;
 use sqlite_items::{Boxed, Items};
 
-/// A variable. `scope` counts scopes outwards from the one in which the name stands, then the file's, then that of the free names; `slot` is its index there.
+/// A variable. `scope` counts scopes outwards from the one in which the name stands, then the
+/// file's, then that of the free names; `slot` is its index there.
 #[derive(Debug, Drop)]
 pub struct Var {
     pub name: Txt,

@@ -1,4 +1,5 @@
-//! Small texts beside what the crates of the syntax make of them: tokens, trees as they are written, scopes, and files with their names resolved. It holds tests alone, over public calls.
+//! Small texts beside what the crates of the syntax make of them: tokens, trees as they are
+//! written, scopes, and files with their names resolved. It holds tests alone, over public calls.
 #![tactic(auto)]
 
 #[cfg(test)]

@@ -1,4 +1,5 @@
-//! The variables of a file as a text, in the order of the file's: `NAME@SCOPE.SLOT`, and `#PLACE` where a function stands.
+//! The variables of a file as a text, in the order of the file's: `NAME@SCOPE.SLOT`, and `#PLACE`
+//! where a function stands.
 use crate::writer::Writer;
 use bz_text::Txt;
 use sqlite_items::Boxed;

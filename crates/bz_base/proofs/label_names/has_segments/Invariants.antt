@@ -8,7 +8,8 @@ use Rattle.bz_base.proofs.label_names.has_segments.Given as goal
 
 abbrev pub invariant-segments : goal.invariant-segments
 invariant-segments l =
-    shadow (Utf8 l.rest) × (list_all is_segment (segments_of l.rest) ≡ list_all is_segment (segments_of l.text))
+    shadow (Utf8 l.rest)
+    × (list_all is_segment (segments_of l.rest) ≡ list_all is_segment (segments_of l.text))
 
 abbrev pub decreases-segments : goal.decreases-segments
 decreases-segments l = length l.rest

@@ -6,4 +6,5 @@ use Rattle.bz_base.proofs.plain_reading.+reading.Goals as goal
 
 pub value_within-returns : goal.value_within-returns
 value_within-returns t c =
-    subst (λ r. Gives r c.level_within.result) (sym (plain_within_layer c.args.depth (view c.args.value.now))) c.level_within.ensures
+    subst (λ r. Gives r c.level_within.result)
+    (sym (plain_within_layer c.args.depth (view c.args.value.now))) c.level_within.ensures

@@ -32,8 +32,12 @@ decreases-two_within l = 8 * l.depth + 6
 
 abbrev pub invariant-items_within-loop-item : goal.invariant-items_within-loop-item
 invariant-items_within-loop-item l =
-    each_after (plain_within (l.depth - 1)) (Ok l.values.items) (items_view (drop l.item-index l.items)) ≡ each_after (plain_within (l.depth - 1)) (Ok []) (items_view l.items)
+    each_after (plain_within (l.depth - 1)) (Ok l.values.items)
+    (items_view (drop l.item-index l.items))
+    ≡ each_after (plain_within (l.depth - 1)) (Ok []) (items_view l.items)
 
 abbrev pub invariant-pairs_within-loop-pair : goal.invariant-pairs_within-loop-pair
 invariant-pairs_within-loop-pair l =
-    each_after (pair_of (plain_within (l.depth - 1))) (Ok l.values.items) (items_view (drop l.pair-index l.pairs)) ≡ each_after (pair_of (plain_within (l.depth - 1))) (Ok []) (items_view l.pairs)
+    each_after (pair_of (plain_within (l.depth - 1))) (Ok l.values.items)
+    (items_view (drop l.pair-index l.pairs))
+    ≡ each_after (pair_of (plain_within (l.depth - 1))) (Ok []) (items_view l.pairs)

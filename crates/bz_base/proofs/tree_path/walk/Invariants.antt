@@ -7,7 +7,9 @@ use Rattle.bz_base.proofs.tree_path.walk.Given as goal
 -- the names so far and what is left lead where the first names and the whole text do
 abbrev pub invariant-segments : goal.invariant-segments
 invariant-segments l =
-    shadow (Utf8 l.rest) × (walked l.rooted (Ok l.names) (segments_of l.rest) ≡ walked l.rooted (Ok l.initial.names) (segments_of l.text))
+    shadow (Utf8 l.rest)
+    × (walked l.rooted (Ok l.names) (segments_of l.rest)
+    ≡ walked l.rooted (Ok l.initial.names) (segments_of l.text))
 
 abbrev pub decreases-segments : goal.decreases-segments
 decreases-segments l = length l.rest

@@ -3,13 +3,17 @@ use Rattle.bz_label.proofs.ResolvedLabels.{Gives-bad_label, Gives-label, Gives-n
 use Rattle.bz_label.proofs.resolution.resolve.Goals as goal
 
 pub returns-clause-label : goal.returns-clause-label
-returns-clause-label c = Gives-label c.args.map.now c.args.home.now c.args.text.now _ c.meaning.ensures
+returns-clause-label c = Gives-label c.args.map.now c.args.home.now c.args.text.now _
+    c.meaning.ensures
 
 pub returns-clause-bad_label : goal.returns-clause-bad_label
-returns-clause-bad_label c = Gives-bad_label c.args.map.now c.args.home.now c.args.text.now _ c.meaning.ensures
+returns-clause-bad_label c = Gives-bad_label c.args.map.now c.args.home.now c.args.text.now _
+    c.meaning.ensures
 
 pub returns-clause-not_visible : goal.returns-clause-not_visible
-returns-clause-not_visible c = Gives-not_visible c.args.map.now c.args.home.now c.args.text.now _ c.meaning.ensures
+returns-clause-not_visible c = Gives-not_visible c.args.map.now c.args.home.now c.args.text.now _
+    c.meaning.ensures
 
 pub returns-clause-good : goal.returns-clause-good
-returns-clause-good c = Gives-good c.args.map.now c.args.home.now c.args.text.now _ c.meaning.ensures
+returns-clause-good c = Gives-good c.args.map.now c.args.home.now c.args.text.now _
+    c.meaning.ensures

@@ -5,14 +5,20 @@ use Rattle.bz_text.proofs.cuts.cut_at.Goals as goal
 
 pub returns-clause-whole : goal.returns-clause-whole
 returns-clause-whole c =
-    Parts-whole c.args.mark c.args.text.now _ (split_parts c.args.mark c.args.text.now _ c.split_once.ensures.cases c.requires)
+    Parts-whole c.args.mark c.args.text.now _
+    (split_parts c.args.mark c.args.text.now _ c.split_once.ensures.cases c.requires)
 
 pub returns-clause-parts : goal.returns-clause-parts
 returns-clause-parts c =
-    Parts-parts c.args.mark c.args.text.now _ (split_parts c.args.mark c.args.text.now _ c.split_once.ensures.cases c.requires)
+    Parts-parts c.args.mark c.args.text.now _
+    (split_parts c.args.mark c.args.text.now _ c.split_once.ensures.cases c.requires)
 
 pub returns-clause-only : goal.returns-clause-only
-returns-clause-only c = parts_at-only c.args.mark c.args.text.now _ (Parts-whole c.args.mark c.args.text.now _ (split_parts c.args.mark c.args.text.now _ c.split_once.ensures.cases c.requires))
+returns-clause-only c = parts_at-only c.args.mark c.args.text.now _
+    (Parts-whole c.args.mark c.args.text.now _
+    (split_parts c.args.mark c.args.text.now _ c.split_once.ensures.cases c.requires))
 
 pub returns-clause-first : goal.returns-clause-first
-returns-clause-first c = parts_at-first c.args.mark c.args.text.now _ (Parts-parts c.args.mark c.args.text.now _ (split_parts c.args.mark c.args.text.now _ c.split_once.ensures.cases c.requires))
+returns-clause-first c = parts_at-first c.args.mark c.args.text.now _
+    (Parts-parts c.args.mark c.args.text.now _
+    (split_parts c.args.mark c.args.text.now _ c.split_once.ensures.cases c.requires))

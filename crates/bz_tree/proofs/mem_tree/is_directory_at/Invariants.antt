@@ -4,4 +4,5 @@ use Rattle.bz_tree.specs.MemTrees.{directory_after_each, after_puts, is_director
 use Rattle.bz_tree.proofs.mem_tree.is_directory_at.Given as goal
 
 abbrev pub invariant-loop-put : goal.invariant-loop-put
-invariant-loop-put l = directory_after_each (drop l.put-index l.puts) l.path l.stands ≡ is_directory (after_puts l.puts l.path Absent)
+invariant-loop-put l = directory_after_each (drop l.put-index l.puts) l.path l.stands
+    ≡ is_directory (after_puts l.puts l.path Absent)

@@ -8,7 +8,12 @@ use Rattle.discovery.proofs.discovery.walk.Given as goal
 -- from here on the walk gives what it gives from the beginning
 abbrev pub invariant-asks : goal.invariant-asks
 invariant-asks g l =
-    ((look : Files) → g.T.Tree.files l.initial.tree ≡ Some look → walk_on (discovery look l.root) (most_keys - length l.nodes) (Ok (record { known = l.known; nodes = l.nodes })) ≡ levels (discovery look l.root) most_keys (Ok (record { known = l.initial.known; nodes = l.initial.nodes })))
+    ((look : Files)
+    → g.T.Tree.files l.initial.tree ≡ Some look
+    → walk_on (discovery look l.root) (most_keys - length l.nodes)
+    (Ok (record { known = l.known; nodes = l.nodes }))
+    ≡ levels (discovery look l.root) most_keys
+    (Ok (record { known = l.initial.known; nodes = l.initial.nodes })))
     × (g.T.Tree.files l.tree ≡ g.T.Tree.files l.initial.tree)
     × (g.T.Tree.faults l.initial.tree ≤ g.T.Tree.faults l.tree)
     × (length l.known ≤ most_keys)

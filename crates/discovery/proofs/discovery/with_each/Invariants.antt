@@ -6,4 +6,6 @@ use Rattle.discovery.proofs.discovery.with_each.Given as goal
 -- the asks so far with those of the dependencies that are left
 abbrev pub invariant-loop-dep : goal.invariant-loop-dep
 invariant-loop-dep l =
-    with_asks discovery_rules (Ok l.known) (map (ask_of l.root (file_text l.node)) (drop l.dep-index l.node.decl.deps)) ≡ with_asks discovery_rules (Ok l.initial.known) (asks_of l.root l.node)
+    with_asks discovery_rules (Ok l.known)
+    (map (ask_of l.root (file_text l.node)) (drop l.dep-index l.node.decl.deps))
+    ≡ with_asks discovery_rules (Ok l.initial.known) (asks_of l.root l.node)

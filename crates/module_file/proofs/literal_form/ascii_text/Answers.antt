@@ -5,4 +5,6 @@ use Rattle.module_file.proofs.literal_form.ascii_text.Goals as goal
 
 pub unreachable-requires : goal.unreachable-requires
 unreachable-requires c =
-    c.in-Err.ensures.cases.0 (IsUtf8-from_ascii c.args.bytes.now (below-all c.args.bytes.now (sym c.if-not-is_ascii.ensures)))
+    c.in-Err.ensures.cases.0
+    (IsUtf8-from_ascii c.args.bytes.now
+    (below-all c.args.bytes.now (sym c.if-not-is_ascii.ensures)))

@@ -10,9 +10,12 @@ may_end b = is_ascii_lowercase b || is_ascii_digit b
 pub returns-in-Some : goal.returns-in-Some
 unfolding may_end
 returns-in-Some c =
-    c.may_end_name.ensures ∙ sym (ends-last may_end c.args.bytes.now ∙ ap (λ (last : Option ℕ). option_map_or may_end last false) (sym c.in-Some.ensures.value))
+    c.may_end_name.ensures
+    ∙ sym (ends-last may_end c.args.bytes.now ∙ ap (λ (last : Option ℕ). option_map_or may_end
+    last false) (sym c.in-Some.ensures.value))
 
 pub returns-in-None : goal.returns-in-None
 unfolding may_end
 returns-in-None c =
-    sym (ends-last may_end c.args.bytes.now ∙ ap (λ (last : Option ℕ). option_map_or may_end last false) (sym c.in-None.ensures.value))
+    sym (ends-last may_end c.args.bytes.now
+    ∙ ap (λ (last : Option ℕ). option_map_or may_end last false) (sym c.in-None.ensures.value))

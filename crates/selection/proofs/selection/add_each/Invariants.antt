@@ -5,4 +5,5 @@ use Rattle.selection.proofs.selection.add_each.Given as goal
 
 abbrev pub invariant-loop-place : goal.invariant-loop-place
 invariant-loop-place l =
-    insert_all nat_eq l.places.keys (drop l.place-index l.more) ≡ insert_all nat_eq l.initial.places.keys l.more
+    insert_all nat_eq l.places.keys (drop l.place-index l.more)
+    ≡ insert_all nat_eq l.initial.places.keys l.more

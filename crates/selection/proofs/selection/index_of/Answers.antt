@@ -5,7 +5,9 @@ use Rattle.selection.proofs.selection.index_of.Goals as goal
 
 pub returns-in_err-index : goal.returns-in_err-index
 returns-in_err-index c =
-    c.from_residual.ensures ∙ sym c.in_err-index.was ∙ c.get_index_of.ensures.index ∙ position_from-zero (nat_eq c.args.place) c.args.places.now.keys
+    c.from_residual.ensures ∙ sym c.in_err-index.was ∙ c.get_index_of.ensures.index
+    ∙ position_from-zero (nat_eq c.args.place) c.args.places.now.keys
 
 pub returns : goal.returns
-returns c = sym c.in_ok-index.was ∙ c.get_index_of.ensures.index ∙ position_from-zero (nat_eq c.args.place) c.args.places.now.keys
+returns c = sym c.in_ok-index.was ∙ c.get_index_of.ensures.index
+    ∙ position_from-zero (nat_eq c.args.place) c.args.places.now.keys

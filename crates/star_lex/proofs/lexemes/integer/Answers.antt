@@ -5,7 +5,8 @@ use Rattle.star_lex.proofs.lexemes.integer.Goals as goal
 
 pub returns-then-begins_fraction : goal.returns-then-begins_fraction
 returns-then-begins_fraction c =
-    let fraction : begins_fraction (drop c.run_length-size.result c.args.text.now) ≡ true = search rules in
+    let fraction : begins_fraction (drop c.run_length-size.result c.args.text.now)
+    ≡ true = search rules in
     IsInteger-fraction c.args.text.now c.run_length-size.result c.run_length-size.ensures fraction
 
 pub returns-in-None : goal.returns-in-None

@@ -5,7 +5,8 @@ use Rattle.star_lex.proofs.runs.run_length.Given as goal
 
 -- all bytes so far belong to the run
 abbrev pub invariant-run : goal.invariant-run
-invariant-run l = (l.length ≤ length l.text) × (list_all (belongs l.within) (take l.length l.text) ≡ true)
+invariant-run l = (l.length ≤ length l.text)
+    × (list_all (belongs l.within) (take l.length l.text) ≡ true)
 
 abbrev pub decreases-run : goal.decreases-run
 decreases-run l = length l.text - l.length

@@ -7,4 +7,5 @@ use Rattle.star_scopes.proofs.bindings.clause_variables.Given as goal
 abbrev pub invariant-clauses : goal.invariant-clauses
 invariant-clauses l =
     variables (map (λ (one : ClauseMeaning). one.bound) (map clause_meaning l.clauses))
-    ≡ each_binds (map (λ (one : ClauseMeaning). one.bound) (map clause_meaning (drop l.clause-index l.clauses))) l.names
+    ≡ each_binds (map (λ (one : ClauseMeaning). one.bound) (map clause_meaning (drop l.clause-index
+    l.clauses))) l.names

@@ -3,4 +3,5 @@ use Rattle.star_grammar.specs.declared.bare_statements.BareLoadName.{BareLoadNam
 use Rattle.star_scopes.proofs.statement_making.load_of.Given as goal
 
 abbrev pub invariant-names : goal.invariant-names
-invariant-names l = l.made.items ≡ map (λ (loaded : BareLoadName). loaded.name) (take l.name-index l.names)
+invariant-names l = l.made.items
+    ≡ map (λ (loaded : BareLoadName). loaded.name) (take l.name-index l.names)

@@ -20,4 +20,6 @@ decreases-def_uses l = 4 * goal.size-def_uses l + 3
 abbrev pub invariant-body_uses-statements : goal.invariant-body_uses-statements
 invariant-body_uses-statements l =
     (l.scopes ≡ l.fn.scopes)
-    × (spec.body_uses l.dialect l.fn.scopes (map stmt_meaning l.body) l.fn.names ≡ each_uses (map (λ (one : StmtMeaning). one.uses l.dialect l.fn.scopes) (map stmt_meaning (drop l.statement-index l.body))) l.names)
+    × (spec.body_uses l.dialect l.fn.scopes (map stmt_meaning l.body) l.fn.names
+    ≡ each_uses (map (λ (one : StmtMeaning). one.uses l.dialect l.fn.scopes) (map stmt_meaning
+    (drop l.statement-index l.body))) l.names)

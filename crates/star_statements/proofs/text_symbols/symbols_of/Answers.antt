@@ -5,4 +5,6 @@ use Rattle.star_statements.proofs.SliceTexts.{Taken, Taken-start, Taken-placed, 
 use Rattle.star_statements.proofs.text_symbols.symbols_of.Goals as goal
 
 pub symbol_of-requires : goal.symbol_of-requires
-symbol_of-requires c = Taken-placed c.args.text.now c.args.tokens.now c.turns.symbols.items c.turns.rest.now c.in-Some.token.now c.in-Some.more.now c.in-Some.ensures.cases.0 c.turns.invariant
+symbol_of-requires c = Taken-placed c.args.text.now c.args.tokens.now c.turns.symbols.items
+    c.turns.rest.now c.in-Some.token.now c.in-Some.more.now c.in-Some.ensures.cases.0
+    c.turns.invariant

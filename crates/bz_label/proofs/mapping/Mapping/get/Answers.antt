@@ -5,4 +5,5 @@ use Rattle.bz_label.proofs.mapping.Mapping.get.Goals as goal
 
 pub returns : goal.returns
 returns c =
-    c.get.ensures.value ∙ lookup-found c.args.apparent.now c.self.inside.names.entries ∙ ap (found c.args.apparent.now) c.self.view_is
+    c.get.ensures.value ∙ lookup-found c.args.apparent.now c.self.inside.names.entries
+    ∙ ap (found c.args.apparent.now) c.self.view_is

@@ -1,6 +1,7 @@
 use Rattle.std.proofs.Common.{rules, arith, [], ◌∷◌, Some, None}
 use Rattle.std.proofs.lemmas.Grind.{common_steps}
-use Rattle.star_grammar.specs.ExpressionReading.{reads, arithmetic, begins_operation, conjunction, disjunction, negation, operated, operation}
+use Rattle.star_grammar.specs.ExpressionReading.{reads, arithmetic, begins_operation, conjunction}
+use Rattle.star_grammar.specs.ExpressionReading.{disjunction, negation, operated, operation}
 use Rattle.star_grammar.specs.Readers.{rounds}
 use Rattle.bz_text.proofs.Turns.{one_more, no_more}
 use Rattle.star_expressions.proofs.grammar.Grammar.disjunction.Goals as goal
@@ -8,11 +9,17 @@ use Rattle.star_expressions.proofs.grammar.Grammar.disjunction.Goals as goal
 pub turns-preserved : goal.turns-preserved
 unfolding rounds operated
 turns-preserved g c =
-    let e = one_more (λ n. rounds (begins_operation (reads c.args.self.now.nesting) 7) (operation (reads c.args.self.now.nesting) 7 (conjunction (reads c.args.self.now.nesting))) n c.turns.left c.turns.symbols.rest.now) _ c.turns.turn c.turns-test.true c.turns.invariant in
+    let e = one_more (λ n. rounds (begins_operation (reads c.args.self.now.nesting) 7) (operation
+    (reads c.args.self.now.nesting) 7
+    (conjunction (reads c.args.self.now.nesting))) n c.turns.left c.turns.symbols.rest.now) _
+    c.turns.turn c.turns-test.true c.turns.invariant in
     first_of (search rules, grind (arith, common_steps))
 
 pub returns-in_default : goal.returns-in_default
 unfolding rounds operated
 returns-in_default g c =
-    let e = one_more (λ n. rounds (begins_operation (reads c.args.self.now.nesting) 7) (operation (reads c.args.self.now.nesting) 7 (conjunction (reads c.args.self.now.nesting))) n c.turns.left c.turns.symbols.rest.now) _ c.turns.turn c.turns-test.true c.turns.invariant in
+    let e = one_more (λ n. rounds (begins_operation (reads c.args.self.now.nesting) 7) (operation
+    (reads c.args.self.now.nesting) 7
+    (conjunction (reads c.args.self.now.nesting))) n c.turns.left c.turns.symbols.rest.now) _
+    c.turns.turn c.turns-test.true c.turns.invariant in
     first_of (search rules, grind (arith, common_steps))

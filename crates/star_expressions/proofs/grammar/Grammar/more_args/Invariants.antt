@@ -8,4 +8,6 @@ use Rattle.star_expressions.proofs.grammar.Grammar.more_args.Given as goal
 abbrev pub invariant-turns : goal.invariant-turns
 invariant-turns g l =
     more_args (reads l.self.nesting level.Test) (one l.fn.first) l.fn.symbols.rest.now
-    ≡ rounds (goes_on s.Comma (Some s.RightRound)) (λ items. skip >> adds (arg (reads l.self.nesting level.Test)) items) (l.turn-end - l.turn) (l.args, l.depth) l.symbols.rest.now
+    ≡ rounds (goes_on s.Comma (Some s.RightRound))
+    (λ items. skip >> adds (arg (reads l.self.nesting level.Test)) items) (l.turn-end - l.turn)
+    (l.args, l.depth) l.symbols.rest.now

@@ -6,5 +6,8 @@ use Rattle.star_expressions.proofs.grammar.Grammar.more_entries.Given as goal
 
 abbrev pub invariant-turns : goal.invariant-turns
 invariant-turns g l =
-    more s.Comma (Some s.RightCurly) (entry (reads l.self.nesting)) (one l.fn.first) l.fn.symbols.rest.now
-    ≡ rounds (goes_on s.Comma (Some s.RightCurly)) (λ items. skip >> adds (entry (reads l.self.nesting)) items) (l.turn-end - l.turn) (l.pairs, l.depth) l.symbols.rest.now
+    more s.Comma (Some s.RightCurly) (entry (reads l.self.nesting))
+    (one l.fn.first) l.fn.symbols.rest.now
+    ≡ rounds (goes_on s.Comma (Some s.RightCurly))
+    (λ items. skip >> adds (entry (reads l.self.nesting)) items) (l.turn-end - l.turn)
+    (l.pairs, l.depth) l.symbols.rest.now

@@ -9,5 +9,8 @@ use Rattle.star_expressions.proofs.grammar.Grammar.more_items.Goals as goal
 pub turns-preserved : goal.turns-preserved
 unfolding rounds
 turns-preserved g c =
-    let e = one_more (λ n. rounds (goes_on s.Comma c.args.close) (λ items. skip >> adds (reads c.args.self.now.nesting c.args.level) items) n (c.turns.items, c.turns.depth) c.turns.symbols.rest.now) _ c.turns.turn c.turns-test.true c.turns.invariant in
+    let e = one_more (λ n. rounds (goes_on s.Comma c.args.close) (λ items. skip >> adds (reads
+    c.args.self.now.nesting c.args.level) items) n
+    (c.turns.items, c.turns.depth) c.turns.symbols.rest.now) _ c.turns.turn c.turns-test.true
+    c.turns.invariant in
     first_of (search rules, grind (arith, common_steps))

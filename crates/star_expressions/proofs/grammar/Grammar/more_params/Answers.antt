@@ -10,5 +10,8 @@ use Rattle.star_expressions.proofs.grammar.Grammar.more_params.Goals as goal
 pub turns-preserved : goal.turns-preserved
 unfolding rounds
 turns-preserved g c =
-    let e = one_more (λ n. rounds (goes_on s.Comma c.args.close) (λ items. skip >> adds (param (reads c.args.self.now.nesting level.Test)) items) n (c.turns.params, c.turns.depth) c.turns.symbols.rest.now) _ c.turns.turn c.turns-test.true c.turns.invariant in
+    let e = one_more (λ n. rounds (goes_on s.Comma c.args.close) (λ items. skip >> adds (param
+    (reads c.args.self.now.nesting level.Test)) items) n
+    (c.turns.params, c.turns.depth) c.turns.symbols.rest.now) _ c.turns.turn c.turns-test.true
+    c.turns.invariant in
     first_of (search rules, grind (arith, common_steps))

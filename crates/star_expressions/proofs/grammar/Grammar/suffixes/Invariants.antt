@@ -5,5 +5,7 @@ use Rattle.star_expressions.proofs.grammar.Grammar.suffixes.Given as goal
 
 abbrev pub invariant-turns : goal.invariant-turns
 invariant-turns g l =
-    turns (begins_suffix (reads l.self.nesting)) (suffix (reads l.self.nesting)) l.fn.first l.fn.symbols.rest.now
-    ≡ rounds (begins_suffix (reads l.self.nesting)) (suffix (reads l.self.nesting)) (l.turn-end - l.turn) l.found l.symbols.rest.now
+    turns (begins_suffix (reads l.self.nesting))
+    (suffix (reads l.self.nesting)) l.fn.first l.fn.symbols.rest.now
+    ≡ rounds (begins_suffix (reads l.self.nesting)) (suffix (reads l.self.nesting))
+    (l.turn-end - l.turn) l.found l.symbols.rest.now

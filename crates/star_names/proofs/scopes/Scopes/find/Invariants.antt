@@ -7,7 +7,9 @@ use Rattle.star_names.proofs.scopes.Scopes.find.Given as goal
 abbrev pub invariant-turns : goal.invariant-turns
 invariant-turns l =
     (length l.rest ≤ length l.self-inside.stack.items)
-    × (scope_and_slot (reverse l.self-inside.stack.items) l.name ≡ further (length l.self-inside.stack.items - length l.rest) (scope_and_slot (reverse l.rest) l.name))
+    × (scope_and_slot (reverse l.self-inside.stack.items) l.name
+    ≡ further (length l.self-inside.stack.items - length l.rest)
+    (scope_and_slot (reverse l.rest) l.name))
 
 abbrev pub decreases-turns : goal.decreases-turns
 decreases-turns l = length l.rest

@@ -3,9 +3,11 @@ use Rattle.star_grammar.specs.declared.bare_expressions.BareClause.{size-BareCla
 use Rattle.star_grammar.specs.declared.bare_expressions.BareExpr.{size-BareExpr}
 use Rattle.star_trees.specs.Variables.{outer}
 use Rattle.star_scopes.specs.ExprMaking as spec
-use Rattle.star_scopes.specs.ExprMeaning.{arg_meaning, clause_meaning, meaning, pair_meaning, param_meaning}
+use Rattle.star_scopes.specs.ExprMeaning.{arg_meaning, clause_meaning, meaning, pair_meaning}
+use Rattle.star_scopes.specs.ExprMeaning.{param_meaning}
 use Rattle.star_scopes.specs.Making.{each, prepended}
-use Rattle.star_scopes.specs.Meanings.{ArgMeaning, ClauseMeaning, ExprMeaning, PairMeaning, ParamMeaning}
+use Rattle.star_scopes.specs.Meanings.{ArgMeaning, ClauseMeaning, ExprMeaning, PairMeaning}
+use Rattle.star_scopes.specs.Meanings.{ParamMeaning}
 use Rattle.star_scopes.proofs.maker.Maker.+making_expressions.Given as goal
 
 abbrev pub decreases-expr : goal.decreases-expr
@@ -57,7 +59,8 @@ abbrev pub decreases-index_target : goal.decreases-index_target
 decreases-index_target l = 16 * max (size-BareExpr l.container.now) (size-BareExpr l.at.now) + 2
 
 abbrev pub decreases-cond : goal.decreases-cond
-decreases-cond l = 16 * max (size-BareExpr l.test.now) (max (size-BareExpr l.chosen.now) (size-BareExpr l.other.now)) + 2
+decreases-cond l = 16 * max (size-BareExpr l.test.now)
+    (max (size-BareExpr l.chosen.now) (size-BareExpr l.other.now)) + 2
 
 abbrev pub decreases-pair : goal.decreases-pair
 decreases-pair l = 16 * goal.size-pair l + 4
@@ -96,40 +99,60 @@ abbrev pub decreases-list_comp : goal.decreases-list_comp
 decreases-list_comp l = 16 * max (goal.size-list_comp l) (size-BareExpr l.item.now) + 8
 
 abbrev pub decreases-dict_comp : goal.decreases-dict_comp
-decreases-dict_comp l = 16 * max (goal.size-dict_comp l) (max (size-BareExpr l.key.now) (size-BareExpr l.value.now)) + 8
+decreases-dict_comp l = 16 * max (goal.size-dict_comp l)
+    (max (size-BareExpr l.key.now) (size-BareExpr l.value.now)) + 8
 
 abbrev pub invariant-items_made-items : goal.invariant-items_made-items
 invariant-items_made-items l =
     (l.self.free ≡ l.fn.self.free)
     × (l.self.scopes ≡ l.fn.self.scopes)
-    × (spec.items_made l.fn.self.free l.fn.self.scopes (map meaning l.items) l.fn.self.lists ≡ prepended l.made.items (each (map (λ (one : ExprMeaning). one.expr l.fn.self.free l.fn.self.scopes) (map meaning (drop l.item-index l.items))) l.self.lists))
+    × (spec.items_made l.fn.self.free l.fn.self.scopes (map meaning l.items) l.fn.self.lists
+    ≡ prepended l.made.items
+    (each (map (λ (one : ExprMeaning). one.expr l.fn.self.free l.fn.self.scopes) (map meaning
+    (drop l.item-index l.items))) l.self.lists))
 
 abbrev pub invariant-targets_made-targets : goal.invariant-targets_made-targets
 invariant-targets_made-targets l =
     (l.self.free ≡ l.fn.self.free)
     × (l.self.scopes ≡ l.fn.self.scopes)
-    × (spec.targets_made l.fn.self.free l.fn.self.scopes (map meaning l.targets) l.fn.self.lists ≡ prepended l.made.items (each (map (λ (one : ExprMeaning). one.target l.fn.self.free l.fn.self.scopes) (map meaning (drop l.target-index l.targets))) l.self.lists))
+    × (spec.targets_made l.fn.self.free l.fn.self.scopes (map meaning l.targets) l.fn.self.lists
+    ≡ prepended l.made.items
+    (each (map (λ (one : ExprMeaning). one.target l.fn.self.free l.fn.self.scopes) (map meaning
+    (drop l.target-index l.targets))) l.self.lists))
 
 abbrev pub invariant-pairs_made-pairs : goal.invariant-pairs_made-pairs
 invariant-pairs_made-pairs l =
     (l.self.free ≡ l.fn.self.free)
     × (l.self.scopes ≡ l.fn.self.scopes)
-    × (spec.pairs_made l.fn.self.free l.fn.self.scopes (map pair_meaning l.pairs) l.fn.self.lists ≡ prepended l.made.items (each (map (λ (one : PairMeaning). one.pair l.fn.self.free l.fn.self.scopes) (map pair_meaning (drop l.pair-index l.pairs))) l.self.lists))
+    × (spec.pairs_made l.fn.self.free l.fn.self.scopes (map pair_meaning l.pairs) l.fn.self.lists
+    ≡ prepended l.made.items
+    (each (map (λ (one : PairMeaning). one.pair l.fn.self.free l.fn.self.scopes) (map
+    pair_meaning (drop l.pair-index l.pairs))) l.self.lists))
 
 abbrev pub invariant-args_made-each : goal.invariant-args_made-each
 invariant-args_made-each l =
     (l.self.free ≡ l.fn.self.free)
     × (l.self.scopes ≡ l.fn.self.scopes)
-    × (spec.args_made l.fn.self.free l.fn.self.scopes (map arg_meaning l.args) l.fn.self.lists ≡ prepended l.made.items (each (map (λ (one : ArgMeaning). one.arg l.fn.self.free l.fn.self.scopes) (map arg_meaning (drop l.arg-index l.args))) l.self.lists))
+    × (spec.args_made l.fn.self.free l.fn.self.scopes (map arg_meaning l.args) l.fn.self.lists
+    ≡ prepended l.made.items
+    (each (map (λ (one : ArgMeaning). one.arg l.fn.self.free l.fn.self.scopes) (map arg_meaning
+    (drop l.arg-index l.args))) l.self.lists))
 
 abbrev pub invariant-params_made-params : goal.invariant-params_made-params
 invariant-params_made-params l =
     (l.self.free ≡ l.fn.self.free)
     × (l.self.scopes ≡ l.fn.self.scopes)
-    × (spec.params_made l.fn.self.free l.fn.self.scopes (map param_meaning l.params) l.fn.self.lists ≡ prepended l.made.items (each (map (λ (one : ParamMeaning). one.param l.fn.self.free l.fn.self.scopes) (map param_meaning (drop l.param-index l.params))) l.self.lists))
+    × (spec.params_made l.fn.self.free l.fn.self.scopes (map param_meaning l.params) l.fn.self.lists
+    ≡ prepended l.made.items
+    (each (map (λ (one : ParamMeaning). one.param l.fn.self.free l.fn.self.scopes) (map
+    param_meaning (drop l.param-index l.params))) l.self.lists))
 
 abbrev pub invariant-more_clauses-clauses : goal.invariant-more_clauses-clauses
 invariant-more_clauses-clauses l =
     (l.self.free ≡ l.fn.self.free)
     × (l.self.scopes ≡ l.fn.self.scopes)
-    × (spec.more_clauses_made l.fn.self.free (outer l.fn.self.scopes) l.fn.self.scopes (map clause_meaning l.clauses) l.fn.self.lists ≡ prepended l.made.items (each (map (λ (one : ClauseMeaning). one.clause l.fn.self.free l.fn.self.scopes l.fn.self.scopes) (map clause_meaning (drop l.clause-index l.clauses))) l.self.lists))
+    × (spec.more_clauses_made l.fn.self.free (outer l.fn.self.scopes) l.fn.self.scopes
+    (map clause_meaning l.clauses) l.fn.self.lists
+    ≡ prepended l.made.items
+    (each (map (λ (one : ClauseMeaning). one.clause l.fn.self.free l.fn.self.scopes
+    l.fn.self.scopes) (map clause_meaning (drop l.clause-index l.clauses))) l.self.lists))

@@ -24,4 +24,7 @@ abbrev pub invariant-body_made-statements : goal.invariant-body_made-statements
 invariant-body_made-statements l =
     (l.self.free ≡ l.fn.self.free)
     × (l.self.scopes ≡ l.fn.self.scopes)
-    × (spec.body_made l.fn.self.free l.fn.self.scopes (map stmt_meaning l.body) l.fn.self.lists ≡ prepended l.made.items (each (map (λ (one : StmtMeaning). one.stmt l.fn.self.free l.fn.self.scopes) (map stmt_meaning (drop l.statement-index l.body))) l.self.lists))
+    × (spec.body_made l.fn.self.free l.fn.self.scopes (map stmt_meaning l.body) l.fn.self.lists
+    ≡ prepended l.made.items
+    (each (map (λ (one : StmtMeaning). one.stmt l.fn.self.free l.fn.self.scopes) (map
+    stmt_meaning (drop l.statement-index l.body))) l.self.lists))

@@ -11,5 +11,8 @@ use Rattle.star_statements.proofs.suites.Suites.statements.Goals as goal
 pub turns-preserved : goal.turns-preserved
 unfolding rounds
 turns-preserved g c =
-    let e = one_more (λ n. rounds (λ i. not (sees s.Outdent i)) (joins (stands c.args.self.now.nesting part.Statement c.args.inside)) n (c.turns.body, c.turns.depth) c.turns.symbols.rest.now) _ c.turns.turn c.turns-test.true c.turns.invariant in
+    let e = one_more (λ n. rounds (λ i. not (sees s.Outdent i)) (joins (stands
+    c.args.self.now.nesting part.Statement c.args.inside)) n
+    (c.turns.body, c.turns.depth) c.turns.symbols.rest.now) _ c.turns.turn c.turns-test.true
+    c.turns.invariant in
     first_of (search rules, grind (arith, common_steps))

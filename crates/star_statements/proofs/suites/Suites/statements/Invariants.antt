@@ -8,5 +8,7 @@ use Rattle.star_statements.proofs.suites.Suites.statements.Given as goal
 
 abbrev pub invariant-turns : goal.invariant-turns
 invariant-turns g l =
-    turns (λ i. not (sees s.Outdent i)) (joins (stands l.self.nesting part.Statement l.inside)) ([], 0) l.fn.symbols.rest.now
-    ≡ rounds (λ i. not (sees s.Outdent i)) (joins (stands l.self.nesting part.Statement l.inside)) (l.turn-end - l.turn) (l.body, l.depth) l.symbols.rest.now
+    turns (λ i. not (sees s.Outdent i)) (joins (stands l.self.nesting part.Statement l.inside))
+    ([], 0) l.fn.symbols.rest.now
+    ≡ rounds (λ i. not (sees s.Outdent i)) (joins (stands l.self.nesting part.Statement l.inside))
+    (l.turn-end - l.turn) (l.body, l.depth) l.symbols.rest.now
