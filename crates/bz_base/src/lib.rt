@@ -1,3 +1,18 @@
+//! The plain values of Bazel's external dependency system: paths, keys, labels, what a module file
+//! declares, the graph of module versions, attributes with their JSON, digests, refusals and the
+//! count of steps.
+//!
+//! In come texts, bytes and JSON; out go values that are compared by what they hold. Nothing here
+//! reads a file.
+//! Read `specs/Paths.antt` and `specs/NormalPaths.antt` first: to which path a text leads, what a
+//! path looks like, and which texts lead to none.
+//! `specs/ModuleDeclarations`, `Graphs` and `Labels` name the conditions that later contracts cite
+//! (`IsDeclared`, `IsGraph`, `IsGraphBy`, `IsSelectedOf`, `IsLabel`, `IsExtensionName`,
+//! `IsGeneratedName`).
+//! Laws (`laws.rt`): a join is normal; a text leads nowhere exactly where it has a NUL or climbs
+//! above `/`; plain values are read back from their JSON.
+//! Limits: a plain value is at most 16 deep; a count stays at 2^64 - 1.
+//! Source: Bazel, "Bazel modules" and "Labels"; POSIX.1-2017, 4.13; RFC 8259; FIPS 180-4; RFC 4648.
 #![tactic(auto)]
 
 pub mod declarations;

@@ -1,6 +1,18 @@
-//! What lies outside a run: the tree of files, the keeper of the lockfile, the sinks of text and
-//! the gate of workers. Each is a trait with a meaning, and has an object in memory; the real tree
-//! and the real sinks are the trusted edge.
+//! What lies outside a run: the tree of files, the keeper of the lockfile, the sinks of text, and
+//! the gate that workers pass.
+//!
+//! Each is a trait whose clauses say what a caller may rest on, with an object in memory for tests
+//! and the real thing for the program (`DirTree`, `StdSink`).
+//! Read `src/tree.rt` first. A read tells what stands at a path (a file of at most 16 MiB, the
+//! names of a directory in ascending byte order, too large a file, or nothing), or failed, and then
+//! a count rose. `room` and `place` put files with the directories above them.
+//! `specs/Places.antt` says what stands where once a file is placed, and what may stand where
+//! placing failed; `specs/MemTrees.antt` says of the tree in memory exactly which calls fail and
+//! what each leaves.
+//! Limits: 16 MiB a file, 64 MiB a lockfile. The real tree tells no content: that it reads and
+//! writes real files is shown by tests.
+//! Source: POSIX.1-2017 for paths and directories. To change what the program does to the file
+//! system open `src/dir_tree.rt`.
 #![tactic(auto)]
 
 pub mod dir_tree;
