@@ -232,18 +232,24 @@ fn is_read(
 #[test]
 fn trees_are_at_most_128_deep(rt: HostRuntime) -> Result<(), Fail> {
     let alloc = rt.alloc();
-    assert!(rt; is_read(alloc, "(", 126, "x", ")")?);
-    assert!(rt; !is_read(alloc, "(", 127, "x", ")")?);
-    assert!(rt; is_read(alloc, "[", 126, "x", "]")?);
-    assert!(rt; !is_read(alloc, "[", 127, "x", "]")?);
-    assert!(rt; is_read(alloc, "x+", 126, "x", "")?);
-    assert!(rt; !is_read(alloc, "x+", 127, "x", "")?);
-    assert!(rt; is_read(alloc, "", 126, "x", ".a")?);
-    assert!(rt; !is_read(alloc, "", 127, "x", ".a")?);
-    assert!(rt; is_read(alloc, "not ", 126, "x", "")?);
-    assert!(rt; !is_read(alloc, "not ", 127, "x", "")?);
-    assert!(rt; !is_read(alloc, "(", 100000, "", "")?);
-    assert!(rt; !is_read(alloc, "x+", 100000, "x", "")?);
+    let cases = [
+        ("(", 126, "x", ")", true),
+        ("(", 127, "x", ")", false),
+        ("[", 126, "x", "]", true),
+        ("[", 127, "x", "]", false),
+        ("x+", 126, "x", "", true),
+        ("x+", 127, "x", "", false),
+        ("", 126, "x", ".a", true),
+        ("", 127, "x", ".a", false),
+        ("not ", 126, "x", "", true),
+        ("not ", 127, "x", "", false),
+        ("(", 100000, "", "", false),
+        ("x+", 100000, "x", "", false),
+    ];
+    for (front, times, middle, back, want) in cases {
+        let got = is_read(alloc, front, times, middle, back)?;
+        assert_eq!(rt; got, want, "at {times} times {front}{back}");
+    }
     Ok(())
 }
 
