@@ -1,4 +1,6 @@
 //! Digests, plain values and their JSON, refusals, keys and the count of steps.
+ghost use Rattle.std.specs.Prelude.{◌≡◌};
+
 use bz_base::{
     Code, Key, Label, Miss, NotPlain, Plain, PlainPair, Steps, Txt, digest_base64, digest_hex,
     plain_json, plain_of_json,

@@ -1,5 +1,6 @@
--- What a walk comes to that is read to its end: each node is read from its ask, no two asks are
--- one, each ask of a node is known, and nothing else is.
+-- What a walk comes to that is read to its end: each node is read from its request, no two requests
+-- are
+-- one, each request of a node is known, and nothing else is.
 use Rattle.std.proofs.Common.{◌≡◌, ℕ, zero, suc, ◌+◌, ◌≤◌, List, [], ◌∷◌, ◌++◌, length, drop}
 use Rattle.std.proofs.Common.{Option, None, Some, Result, Ok, Err, Bool, true, false, ◌||◌}
 use Rattle.std.proofs.Common.{if◌then◌else◌, refl, ap, sym, ◌∙◌, subst, arith, append_assoc}
@@ -16,92 +17,96 @@ use Rattle.bz_walks.proofs.EachItem.{AllByRecursion-between, AllByRecursion-weak
 use Rattle.bz_walks.proofs.EachItem.{AllZip-pushed}
 use Rattle.bz_walks.proofs.WalkSteps.{Grows, Grows-on, Grows-same, Keeps, walk_on, walk_on-ended}
 use Rattle.bz_walks.proofs.WalkSteps.{walk_on-refused, walk_on-step}
-use Rattle.bz_walks.specs.Walks.{Rules, Walk, Walked, next_level, unless_barred, walked_with}
-use Rattle.bz_walks.specs.Walks.{with_ask, with_asks, with_node}
+use Rattle.bz_walks.specs.Walks.{Rules, Walk, Walked, next_level, within_limit, walked_with}
+use Rattle.bz_walks.specs.Walks.{with_request, with_requests, with_node}
 
--- an ask that is one with a known ask
+-- a request that is one with a known request
 abbrev pub Stands : {A E : Type 0} → Rules A E → List A → A → Type 0
-Stands rules known ask = list_any (rules.same ask) known ≡ true
+Stands rules known request = list_any (rules.same request) known ≡ true
 
 abbrev pub AllPassing : {A : Type 0} → (A → Bool) → List A → Type 0
-AllPassing holds asks = AllByRecursion (λ ask. holds ask ≡ true) asks
+AllPassing holds requests = AllByRecursion (λ request. holds request ≡ true) requests
 
 Stands-grown : {A E : Type 0} (rules : Rules A E) (known more : List A)
     → Grows known more
-    → (ask : A)
-    → Stands rules known ask
-    → Stands rules more ask
-Stands-grown rules known more grown ask there =
-    ap (list_any (rules.same ask)) grown.behind ∙ list_any-append (rules.same ask) known grown.extra
-    ∙ ap (λ b. b || list_any (rules.same ask) grown.extra) there
+    → (request : A)
+    → Stands rules known request
+    → Stands rules more request
+Stands-grown rules known more grown request there =
+    ap (list_any (rules.same request)) grown.behind
+    ∙ list_any-append (rules.same request) known grown.extra
+    ∙ ap (λ b. b || list_any (rules.same request) grown.extra) there
 
--- what is known with some more asks
-pub record Added {A E : Type 0} (rules : Rules A E) (known asks more : List A) : Type 0 where
+-- what is known with some more requests
+pub record Added {A E : Type 0} (rules : Rules A E) (known requests more : List A) : Type 0 where
   pub grown : Grows known more
   pub distinct : IsDistinct rules.same known → IsDistinct rules.same more
-  pub stand : AllByRecursion (Stands rules more) asks
+  pub stand : AllByRecursion (Stands rules more) requests
   pub passing : (holds : A → Bool)
       → AllPassing holds known
-      → AllPassing holds asks
+      → AllPassing holds requests
       → AllPassing holds more
 
-with_ask-added : {A E : Type 0} (rules : Rules A E)
+with_request-added : {A E : Type 0} (rules : Rules A E)
     → IsEquivalence rules.same
-    → (known : List A) (ask : A) (more : List A)
-    → with_ask rules known ask ≡ Ok more
-    → Added rules known (ask ∷ []) more
-with_ask-added {A} {E} rules alike known ask more = by (list_any (rules.same ask) known) refl
-    (rules.bar known ask)
+    → (known : List A) (request : A) (more : List A)
+    → with_request rules known request ≡ Ok more
+    → Added rules known (request ∷ []) more
+with_request-added {A} {E} rules alike known request more = by
+    (list_any (rules.same request) known) refl
+    (rules.limit known request)
   where
-    last : list_any (rules.same ask) known ≡ false → Stands rules (known ++ ask ∷ []) ask
-    last new = list_any-append (rules.same ask) known (ask ∷ [])
-        ∙ (λ i. new i || (alike.refl ask i || false))
+    last : list_any (rules.same request) known ≡ false
+        → Stands rules (known ++ request ∷ []) request
+    last new = list_any-append (rules.same request) known (request ∷ [])
+        ∙ (λ i. new i || (alike.refl request i || false))
 
     by : (there : Bool)
-        → list_any (rules.same ask) known ≡ there
-        → (bar : Option E)
-        → (if there then Ok known else unless_barred known ask bar) ≡ Ok more
-        → Added rules known (ask ∷ []) more
-    by true there bar e =
+        → list_any (rules.same request) known ≡ there
+        → (limit : Option E)
+        → (if there then Ok known else within_limit known request limit) ≡ Ok more
+        → Added rules known (request ∷ []) more
+    by true there limit e =
         let same : known ≡ more = cc e in
-        subst (Added rules known (ask ∷ [])) same
+        subst (Added rules known (request ∷ [])) same
         (record {
           grown = Grows-same known known refl;
           distinct = λ d. d;
           stand =
               (there, tt);
-          passing = λ holds all asks. all;
+          passing = λ holds all requests. all;
         })
     by false new None e =
-        let same : known ++ ask ∷ [] ≡ more = cc e in
-        subst (Added rules known (ask ∷ [])) same (record {
-          grown = record { extra = ask ∷ []; behind = refl };
-          distinct = λ d. IsDistinct-push alike known ask d new;
+        let same : known ++ request ∷ [] ≡ more = cc e in
+        subst (Added rules known (request ∷ [])) same (record {
+          grown = record { extra = request ∷ []; behind = refl };
+          distinct = λ d. IsDistinct-push alike known request d new;
           stand = (last new, tt);
-          passing = λ holds all asks. AllByRecursion-append (λ one. holds one ≡ true) known
-              (ask ∷ []) all asks;
+          passing = λ holds all requests. AllByRecursion-append (λ one. holds one ≡ true) known
+              (request ∷ []) all requests;
         })
     by false new (Some refusal) e = absurd (cc e)
 
-Added-on : {A E : Type 0} (rules : Rules A E) (known : List A) (ask : A) (asks middle more : List A)
-    → Added rules known (ask ∷ []) middle
-    → Added rules middle asks more
-    → Added rules known (ask ∷ asks) more
-Added-on rules known ask asks middle more first after =
+Added-on : {A E : Type 0} (rules : Rules A E) (known : List A) (request : A)
+    (requests middle more : List A)
+    → Added rules known (request ∷ []) middle
+    → Added rules middle requests more
+    → Added rules known (request ∷ requests) more
+Added-on rules known request requests middle more first after =
     record {
       grown = Grows-on first.grown after.grown;
       distinct = λ d. after.distinct (first.distinct d);
-      stand = (Stands-grown rules middle more after.grown ask first.stand.0, after.stand);
+      stand = (Stands-grown rules middle more after.grown request first.stand.0, after.stand);
       passing = λ holds all passing. after.passing holds
           (first.passing holds all (passing.0, tt)) passing.1;
     }
 
-pub with_asks-added : {A E : Type 0} (rules : Rules A E)
+pub with_requests-added : {A E : Type 0} (rules : Rules A E)
     → IsEquivalence rules.same
-    → (asks known more : List A)
-    → with_asks rules (Ok known) asks ≡ Ok more
-    → Added rules known asks more
-with_asks-added rules alike [] known more e =
+    → (requests known more : List A)
+    → with_requests rules (Ok known) requests ≡ Ok more
+    → Added rules known requests more
+with_requests-added rules alike [] known more e =
     let same : known ≡ more = cc e in
     subst (Added rules known []) same
     (record {
@@ -109,31 +114,33 @@ with_asks-added rules alike [] known more e =
       distinct = λ d. d;
       stand = tt;
       passing = λ
-          holds all asks. all;
+          holds all requests. all;
     })
-with_asks-added {A} {E} rules alike (ask ∷ asks) known more e =
-    by (with_ask rules known ask) (λ middle. with_ask-added rules alike known ask middle)
-    (λ middle. with_asks-added rules alike asks middle more) e
+with_requests-added {A} {E} rules alike (request ∷ requests) known more e =
+    by (with_request rules known request)
+    (λ middle. with_request-added rules alike known request middle)
+    (λ middle. with_requests-added rules alike requests middle more) e
   where
     by : (r : Result (List A) E)
-        → ((middle : List A) → r ≡ Ok middle → Added rules known (ask ∷ []) middle)
+        → ((middle : List A) → r ≡ Ok middle → Added rules known (request ∷ []) middle)
         → ((middle : List A)
-        → with_asks rules (Ok middle) asks ≡ Ok more
-        → Added rules middle asks more)
-        → with_asks rules r asks ≡ Ok more
-        → Added rules known (ask ∷ asks) more
-    by (Ok middle) first further e = Added-on rules known ask asks middle more (first middle refl)
+        → with_requests rules (Ok middle) requests ≡ Ok more
+        → Added rules middle requests more)
+        → with_requests rules r requests ≡ Ok more
+        → Added rules known (request ∷ requests) more
+    by (Ok middle) first further e = Added-on rules known request requests middle more
+        (first middle refl)
         (further middle e)
     by (Err refusal) first further e = absurd (cc e)
 
 abbrev pub IsReadBy : {A N E : Type 0} → Walk A N E → A → N → Type 0
-IsReadBy walk ask node = walk.read ask ≡ Ok node
+IsReadBy walk request node = walk.read request ≡ Ok node
 
--- with an ask each ask of the node to which it leads
+-- with a request each request of the node to which it leads
 abbrev pub PassesOn : {A N E : Type 0} → Walk A N E → (A → Bool) → A → N → Type 0
-PassesOn walk holds ask node = holds ask ≡ true → AllPassing holds (walk.asks node)
+PassesOn walk holds request node = holds request ≡ true → AllPassing holds (walk.requests node)
 
--- a walk that began with one ask and one node, and what is left of it
+-- a walk that began with one request and one node, and what is left of it
 pub record IsWalked {A N E : Type 0} (walk : Walk A N E) (start : A) (first : N) (known : List A)
     (further : List N) : Type 0 where
   pub front : List A
@@ -141,7 +148,7 @@ pub record IsWalked {A N E : Type 0} (walk : Walk A N E) (start : A) (first : N)
   pub known_is : known ≡ start ∷ (front ++ left)
   pub read : AllZip (IsReadBy walk) front further
   pub distinct : IsDistinct walk.rules.same known
-  pub stand : AllByRecursion (λ node. AllByRecursion (Stands walk.rules known) (walk.asks node))
+  pub stand : AllByRecursion (λ node. AllByRecursion (Stands walk.rules known) (walk.requests node))
       (first ∷ further)
   pub least : (holds : A → Bool)
       → holds start ≡ true
@@ -164,50 +171,51 @@ IsWalked-next : {A N E : Type 0} (walk : Walk A N E)
     → IsEquivalence walk.rules.same
     → (start : A) (first : N) (known : List A) (further : List N)
     → IsWalked walk start first known further
-    → (ask : A) (rest : List A) (node : N) (more : List A)
-    → next_level (walked_to first known further) ≡ ask ∷ rest
-    → walk.read ask ≡ Ok node
-    → with_asks walk.rules (Ok known) (walk.asks node) ≡ Ok more
+    → (request : A) (rest : List A) (node : N) (more : List A)
+    → next_level (walked_to first known further) ≡ request ∷ rest
+    → walk.read request ≡ Ok node
+    → with_requests walk.rules (Ok known) (walk.requests node) ≡ Ok more
     → IsWalked walk start first more (further ++ node ∷ [])
-IsWalked-next {A} {N} walk alike start first known further walked ask rest node more next read asked
+IsWalked-next {A} {N} walk alike start first known further walked request rest node more next read
+    asked
     =
     record {
-      front = walked.front ++ ask ∷ [];
+      front = walked.front ++ request ∷ [];
       left = rest ++ added.grown.extra;
       known_is = added.grown.behind ∙ ap (λ l. l ++ added.grown.extra) split
           ∙ ap (λ l. start ∷ l)
-          (append_assoc walked.front (ask ∷ rest) added.grown.extra
-          ∙ sym (append_assoc walked.front (ask ∷ []) (rest ++ added.grown.extra)));
-      read = AllZip-pushed (IsReadBy walk) walked.front further ask node walked.read read;
+          (append_assoc walked.front (request ∷ rest) added.grown.extra
+          ∙ sym (append_assoc walked.front (request ∷ []) (rest ++ added.grown.extra)));
+      read = AllZip-pushed (IsReadBy walk) walked.front further request node walked.read read;
       distinct = added.distinct walked.distinct;
       stand = AllByRecursion-append
-          (λ other. AllByRecursion (Stands walk.rules more) (walk.asks other)) (first ∷ further)
+          (λ other. AllByRecursion (Stands walk.rules more) (walk.requests other)) (first ∷ further)
           (node ∷ []) (AllByRecursion-weaker _ _ (λ other. AllByRecursion-weaker _ _ (Stands-grown
-          walk.rules known more added.grown) (walk.asks other)) (first ∷ further) walked.stand)
+          walk.rules known more added.grown) (walk.requests other)) (first ∷ further) walked.stand)
           (added.stand, tt);
       least = least;
     }
   where
-    added : Added walk.rules known (walk.asks node) more
-    added = with_asks-added walk.rules alike (walk.asks node) known more asked
+    added : Added walk.rules known (walk.requests node) more
+    added = with_requests-added walk.rules alike (walk.requests node) known more asked
 
-    split : known ≡ start ∷ (walked.front ++ ask ∷ rest)
+    split : known ≡ start ∷ (walked.front ++ request ∷ rest)
     split = walked.known_is
         ∙ ap (λ l. start ∷ (walked.front ++ l))
         (sym (left_is walk start first known further walked) ∙ next)
 
     least : (holds : A → Bool)
         → holds start ≡ true
-        → AllZip (PassesOn walk holds) (start ∷ (walked.front ++ ask ∷ []))
+        → AllZip (PassesOn walk holds) (start ∷ (walked.front ++ request ∷ []))
         (first ∷ (further ++ node ∷ []))
         → AllPassing holds more
     least holds begins passes =
         let parts : AllZip (PassesOn walk holds) walked.front further
-        × PassesOn walk holds ask node = AllZip-apart (IsReadBy walk)
-        (PassesOn walk holds) walked.front further ask node walked.read passes.1 in
+        × PassesOn walk holds request node = AllZip-apart (IsReadBy walk)
+        (PassesOn walk holds) walked.front further request node walked.read passes.1 in
         let before : AllPassing holds known = walked.least holds begins (passes.0, parts.0) in
-        let at : holds ask ≡ true = AllByRecursion-between (λ one. holds one ≡ true) (start ∷
-        walked.front) ask rest (subst (AllPassing holds) split before) in
+        let at : holds request ≡ true = AllByRecursion-between (λ one. holds one ≡ true) (start ∷
+        walked.front) request rest (subst (AllPassing holds) split before) in
         added.passing holds before (parts.1 at)
 
 -- a walk with nothing left
@@ -217,7 +225,7 @@ pub record IsWhole {A N E : Type 0} (walk : Walk A N E) (P : List A → Type 0) 
   pub read : AllZip (IsReadBy walk) front further
   pub distinct : IsDistinct walk.rules.same (start ∷ front)
   pub stand : AllByRecursion
-      (λ node. AllByRecursion (Stands walk.rules (start ∷ front)) (walk.asks node))
+      (λ node. AllByRecursion (Stands walk.rules (start ∷ front)) (walk.requests node))
       (first ∷ further)
   pub least : (holds : A → Bool)
       → holds start ≡ true
@@ -248,8 +256,9 @@ IsEnded-here walk P start first known further holds walked ended =
         bounded = subst P all holds;
         read = walked.read;
         distinct = subst (IsDistinct walk.rules.same) all walked.distinct;
-        stand = subst (λ asks. AllByRecursion (λ node. AllByRecursion (Stands walk.rules asks)
-            (walk.asks node)) (first ∷ further)) all walked.stand;
+        stand = subst (λ requests. AllByRecursion (λ node. AllByRecursion (Stands walk.rules
+            requests)
+            (walk.requests node)) (first ∷ further)) all walked.stand;
         least = λ passing begins passes. subst (AllPassing passing) all
             (walked.least passing begins passes);
       };
@@ -294,33 +303,33 @@ walk_on-ends {A} {N} {E} walk alike P most bounded kept start first final
         → walk_on walk n (Ok (walked_to first more (further ++ node ∷ []))) ≡ Ok final
         → IsEnded walk P start first final
 
-    added : (ask : A) (rest : List A)
-        → next_level (walked_to first known further) ≡ ask ∷ rest
+    added : (request : A) (rest : List A)
+        → next_level (walked_to first known further) ≡ request ∷ rest
         → (node : N)
-        → walk.read ask ≡ Ok node
+        → walk.read request ≡ Ok node
         → Further
         → (r : Result (List A) E)
-        → with_asks walk.rules (Ok known) (walk.asks node) ≡ r
+        → with_requests walk.rules (Ok known) (walk.requests node) ≡ r
         → walk_on walk n (walked_with (first ∷ further) node r) ≡ Ok final
         → IsEnded walk P start first final
-    added ask rest next node read on (Err refusal) asked e = absurd
+    added request rest next node read on (Err refusal) asked e = absurd
         (cc (sym (walk_on-refused walk n refusal) ∙ e))
-    added ask rest next node read on (Ok more) asked e =
-        on more node (kept known more ask node holds read asked)
-        (IsWalked-next walk alike start first known further walked ask rest node more next read
+    added request rest next node read on (Ok more) asked e =
+        on more node (kept known more request node holds read asked)
+        (IsWalked-next walk alike start first known further walked request rest node more next read
         asked) e
 
-    read_from : (ask : A) (rest : List A)
-        → next_level (walked_to first known further) ≡ ask ∷ rest
+    read_from : (request : A) (rest : List A)
+        → next_level (walked_to first known further) ≡ request ∷ rest
         → Further
         → (r : Result N E)
-        → walk.read ask ≡ r
+        → walk.read request ≡ r
         → walk_on walk n (with_node walk (walked_to first known further) r) ≡ Ok final
         → IsEnded walk P start first final
-    read_from ask rest next on (Err refusal) read e = absurd
+    read_from request rest next on (Err refusal) read e = absurd
         (cc (sym (walk_on-refused walk n refusal) ∙ e))
-    read_from ask rest next on (Ok node) read e = added ask rest next node read on
-        (with_asks walk.rules (Ok known) (walk.asks node)) refl e
+    read_from request rest next on (Ok node) read e = added request rest next node read on
+        (with_requests walk.rules (Ok known) (walk.requests node)) refl e
 
     by : (level : List A)
         → next_level (walked_to first known further) ≡ level
@@ -332,20 +341,20 @@ walk_on-ends {A} {N} {E} walk alike P most bounded kept start first final
         e) in
         subst (IsEnded walk P start first) same
         (IsEnded-here walk P start first known further holds walked next)
-    by (ask ∷ rest) next on =
-        read_from ask rest next on (walk.read ask) refl
-        (sym (walk_on-step walk n (walked_to first known further) ask rest next) ∙ e)
+    by (request ∷ rest) next on =
+        read_from request rest next on (walk.read request) refl
+        (sym (walk_on-step walk n (walked_to first known further) request rest next) ∙ e)
 
 -- a walk of which the first node alone is read
 pub IsWalked-first : {A N E : Type 0} (walk : Walk A N E)
     → IsEquivalence walk.rules.same
     → (start : A) (first : N) (known : List A)
-    → with_asks walk.rules (Ok (start ∷ [])) (walk.asks first) ≡ Ok known
+    → with_requests walk.rules (Ok (start ∷ [])) (walk.requests first) ≡ Ok known
     → IsWalked walk start first known []
 unfolding IsDistinct
 IsWalked-first walk alike start first known asked =
     let added : Added walk.rules (start ∷ [])
-    (walk.asks first) known = with_asks-added walk.rules alike (walk.asks first)
+    (walk.requests first) known = with_requests-added walk.rules alike (walk.requests first)
     (start ∷ []) known asked in
     record {
       front = [];
@@ -359,35 +368,38 @@ IsWalked-first walk alike start first known asked =
 
 -- a walk that never refuses
 pub record IsOpen {A N E : Type 0} (walk : Walk A N E) : Type 0 where
-  pub reads : (ask : A) → (node : N) × (walk.read ask ≡ Ok node)
-  pub unbarred : (known : List A) (ask : A) → walk.rules.bar known ask ≡ None
+  pub reads : (request : A) → (node : N) × (walk.read request ≡ Ok node)
+  pub within : (known : List A) (request : A) → walk.rules.limit known request ≡ None
 
-with_ask-open : {A N E : Type 0} (walk : Walk A N E)
+with_request-open : {A N E : Type 0} (walk : Walk A N E)
     → IsOpen walk
-    → (known : List A) (ask : A)
-    → (more : List A) × (with_ask walk.rules known ask ≡ Ok more)
-with_ask-open {A} {N} {E} walk open_to known ask = by (list_any (walk.rules.same ask) known)
-    (walk.rules.bar known ask) (open_to.unbarred known ask)
+    → (known : List A) (request : A)
+    → (more : List A) × (with_request walk.rules known request ≡ Ok more)
+with_request-open {A} {N} {E} walk open_to known request = by
+    (list_any (walk.rules.same request) known)
+    (walk.rules.limit known request) (open_to.within known request)
   where
-    by : (there : Bool) (bar : Option E)
-        → bar ≡ None
-        → (more : List A) × ((if there then Ok known else unless_barred known ask bar) ≡ Ok more)
-    by true bar none = (known, refl)
-    by false None none = (known ++ ask ∷ [], refl)
+    by : (there : Bool) (limit : Option E)
+        → limit ≡ None
+        → (more : List A) × ((if there then Ok known else within_limit known request limit) ≡ Ok
+        more)
+    by true limit none = (known, refl)
+    by false None none = (known ++ request ∷ [], refl)
     by false (Some refusal) none = absurd (cc none)
 
-pub with_asks-open : {A N E : Type 0} (walk : Walk A N E)
+pub with_requests-open : {A N E : Type 0} (walk : Walk A N E)
     → IsOpen walk
-    → (asks known : List A)
-    → (more : List A) × (with_asks walk.rules (Ok known) asks ≡ Ok more)
-with_asks-open walk open_to [] known = (known, refl)
-with_asks-open {A} walk open_to (ask ∷ asks) known =
+    → (requests known : List A)
+    → (more : List A) × (with_requests walk.rules (Ok known) requests ≡ Ok more)
+with_requests-open walk open_to [] known = (known, refl)
+with_requests-open {A} walk open_to (request ∷ requests) known =
     let first : (middle : List A)
-    × (with_ask walk.rules known ask ≡ Ok middle) = with_ask-open walk open_to known ask in
+    × (with_request walk.rules known request
+    ≡ Ok middle) = with_request-open walk open_to known request in
     let rest : (more : List A)
-    × (with_asks walk.rules (Ok first.0) asks
-    ≡ Ok more) = with_asks-open walk open_to asks first.0 in
-    (rest.0, ap (λ r. with_asks walk.rules r asks) first.1 ∙ rest.1)
+    × (with_requests walk.rules (Ok first.0) requests
+    ≡ Ok more) = with_requests-open walk open_to requests first.0 in
+    (rest.0, ap (λ r. with_requests walk.rules r requests) first.1 ∙ rest.1)
 
 pub walk_on-open : {A N E : Type 0} (walk : Walk A N E)
     → IsOpen walk
@@ -403,17 +415,17 @@ walk_on-open {A} {N} {E} walk open_to (suc n) walked = by (next_level walked) re
         → ((after : Walked A N) → (final : Walked A N) × (walk_on walk n (Ok after) ≡ Ok final))
         → (final : Walked A N) × (walk_on walk (suc n) (Ok walked) ≡ Ok final)
     by [] next further = (walked, walk_on-ended walk (suc n) walked next)
-    by (ask ∷ rest) next further =
-        let read : (node : N) × (walk.read ask ≡ Ok node) = open_to.reads ask in
+    by (request ∷ rest) next further =
+        let read : (node : N) × (walk.read request ≡ Ok node) = open_to.reads request in
         let asked : (more : List A)
-        × (with_asks walk.rules (Ok walked.known) (walk.asks read.0)
-        ≡ Ok more) = with_asks-open walk open_to (walk.asks read.0) walked.known in
+        × (with_requests walk.rules (Ok walked.known) (walk.requests read.0)
+        ≡ Ok more) = with_requests-open walk open_to (walk.requests read.0) walked.known in
         let after : (final : Walked A N)
         × (walk_on walk n (Ok (record { known = asked.0; nodes = walked.nodes ++ read.0 ∷ [] }))
         ≡ Ok final) = further
         (record { known = asked.0; nodes = walked.nodes ++ read.0 ∷ [] }) in (
           after.0,
-          walk_on-step walk n walked ask rest next
+          walk_on-step walk n walked request rest next
               ∙ ap (λ r. walk_on walk n (with_node walk walked r)) read.1
               ∙ ap (λ r. walk_on walk n (walked_with walked.nodes read.0 r)) asked.1 ∙ after.1,
         )

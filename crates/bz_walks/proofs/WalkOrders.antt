@@ -9,34 +9,39 @@ use Rattle.std.proofs.lemmas.Slice.Zip.{AllZip-long}
 use Rattle.bz_walks.proofs.WalkSteps.{levels-refused}
 use Rattle.std.proofs.lemmas.List.{append-nil, length-append, length-drop, take-append-drop}
 use Rattle.std.specs.List.{AllZip, list_any}
-use Rattle.bz_walks.specs.WalkOrders.{AreRead, FollowLevels, IsFirstBarred, IsFirstRefusal}
+use Rattle.bz_walks.specs.WalkOrders.{AreRead, FollowLevels, IsFirstOverLimit, IsFirstRefusal}
 use Rattle.bz_walks.specs.WalkOrders.{IsLevelByLevel, IsRefusedAt, end, here, later, level}
 use Rattle.bz_walks.specs.WalkOrders.{new_requests, next_of}
-use Rattle.bz_walks.specs.Walks.{Rules, Walk, Walked, levels, next_level, unless_barred}
-use Rattle.bz_walks.specs.Walks.{walked_with, with_ask, with_asks, with_level, with_node}
+use Rattle.bz_walks.specs.Walks.{Rules, Walk, Walked, levels, next_level, within_limit}
+use Rattle.bz_walks.specs.Walks.{walked_with, with_request, with_requests, with_level, with_node}
 
 -- ---- requests
 
 -- what is added is new
-added-new : {A E : Type 0} (rules : Rules A E) (asks known more : List A)
-    → with_asks rules (Ok known) asks ≡ Ok more
-    → more ≡ known ++ new_requests rules.same known asks
+added-new : {A E : Type 0} (rules : Rules A E) (requests known more : List A)
+    → with_requests rules (Ok known) requests ≡ Ok more
+    → more ≡ known ++ new_requests rules.same known requests
 added-new rules [] known more e = let same : known ≡ more = cc in sym same ∙ sym (append-nil known)
-added-new {A} {E} rules (ask ∷ asks) known more e =
-    by (list_any (rules.same ask) known) (rules.bar known ask) (added-new rules asks known more)
-    (added-new rules asks (known ++ ask ∷ []) more) e
+added-new {A} {E} rules (request ∷ requests) known more e =
+    by (list_any (rules.same request) known) (rules.limit known request)
+    (added-new rules requests known more)
+    (added-new rules requests (known ++ request ∷ []) more) e
   where
-    by : (there : Bool) (bar : Option E)
-        → (with_asks rules (Ok known) asks ≡ Ok more
-        → more ≡ known ++ new_requests rules.same known asks)
-        → (with_asks rules (Ok (known ++ ask ∷ [])) asks ≡ Ok more
-        → more ≡ (known ++ ask ∷ []) ++ new_requests rules.same (known ++ ask ∷ []) asks)
-        → with_asks rules (if there then Ok known else unless_barred known ask bar) asks ≡ Ok more
-        → more ≡ known ++ (if there then new_requests rules.same known asks else ask ∷ new_requests
-        rules.same (known ++ ask ∷ []) asks)
-    by true bar stays adds e = stays e
+    by : (there : Bool) (limit : Option E)
+        → (with_requests rules (Ok known) requests ≡ Ok more
+        → more ≡ known ++ new_requests rules.same known requests)
+        → (with_requests rules (Ok (known ++ request ∷ [])) requests ≡ Ok more
+        → more ≡ (known ++ request ∷ [])
+        ++ new_requests rules.same (known ++ request ∷ []) requests)
+        → with_requests rules
+        (if there then Ok known else within_limit known request limit) requests ≡ Ok more
+        → more ≡ known ++ (if there then new_requests rules.same known requests else request ∷
+        new_requests
+        rules.same (known ++ request ∷ []) requests)
+    by true limit stays adds e = stays e
     by false None stays adds e = adds e
-        ∙ append_assoc known (ask ∷ []) (new_requests rules.same (known ++ ask ∷ []) asks)
+        ∙ append_assoc known (request ∷ [])
+        (new_requests rules.same (known ++ request ∷ []) requests)
     by false (Some refusal) stays adds e = absurd (cc)
 
 new-append : {A : Type 0} (same : A → A → Bool) (xs ys known : List A)
@@ -66,21 +71,21 @@ new-append {A} same (x ∷ xs) ys known = by (list_any (same x) known) (new-appe
 -- ---- one level
 
 -- what a level leaves: the nodes of its requests, and what they ask for
-record LevelRead {A N E : Type 0} (walk : Walk A N E) (walked : Walked A N) (asks : List A)
+record LevelRead {A N E : Type 0} (walk : Walk A N E) (walked : Walked A N) (requests : List A)
     (after : Walked A N) : Type 0 where
   nodes : List N
-  read : AreRead walk asks nodes
+  read : AreRead walk requests nodes
   nodes_are : after.nodes ≡ walked.nodes ++ nodes
   known_are : after.known ≡ walked.known ++ next_of walk walked.known nodes
 
-level-refused : {A N E : Type 0} (walk : Walk A N E) (refusal : E) (asks : List A)
-    → with_level walk (Err refusal) asks ≡ Err refusal
+level-refused : {A N E : Type 0} (walk : Walk A N E) (refusal : E) (requests : List A)
+    → with_level walk (Err refusal) requests ≡ Err refusal
 level-refused walk refusal [] = refl
-level-refused walk refusal (ask ∷ asks) = refl
+level-refused walk refusal (request ∷ requests) = refl
 
-level-read : {A N E : Type 0} (walk : Walk A N E) (asks : List A) (walked after : Walked A N)
-    → with_level walk (Ok walked) asks ≡ Ok after
-    → LevelRead walk walked asks after
+level-read : {A N E : Type 0} (walk : Walk A N E) (requests : List A) (walked after : Walked A N)
+    → with_level walk (Ok walked) requests ≡ Ok after
+    → LevelRead walk walked requests after
 level-read walk [] walked after e =
     let same : walked ≡ after = cc in
     record {
@@ -89,51 +94,54 @@ level-read walk [] walked after e =
       nodes_are = sym (ap (λ (w : Walked _ _). w.nodes) same) ∙ sym (append-nil walked.nodes);
       known_are = sym (ap (λ (w : Walked _ _). w.known) same) ∙ sym (append-nil walked.known);
     }
-level-read {A} {N} {E} walk (ask ∷ asks) walked after e = reading (walk.read ask) refl
-    (λ middle. level-read walk asks middle after) e
+level-read {A} {N} {E} walk (request ∷ requests) walked after e = reading (walk.read request) refl
+    (λ middle. level-read walk requests middle after) e
   where
     Further : Type 0
     Further = (middle : Walked A N)
-        → with_level walk (Ok middle) asks ≡ Ok after
-        → LevelRead walk middle asks after
+        → with_level walk (Ok middle) requests ≡ Ok after
+        → LevelRead walk middle requests after
 
     adding : (node : N)
-        → walk.read ask ≡ Ok node
+        → walk.read request ≡ Ok node
         → (r : Result (List A) E)
-        → with_asks walk.rules (Ok walked.known) (walk.asks node) ≡ r
+        → with_requests walk.rules (Ok walked.known) (walk.requests node) ≡ r
         → Further
-        → with_level walk (walked_with walked.nodes node r) asks ≡ Ok after
-        → LevelRead walk walked (ask ∷ asks) after
+        → with_level walk (walked_with walked.nodes node r) requests ≡ Ok after
+        → LevelRead walk walked (request ∷ requests) after
     adding node read (Err refusal) added further e = absurd
-        (cc (sym (level-refused walk refusal asks) ∙ e))
+        (cc (sym (level-refused walk refusal requests) ∙ e))
     adding node read (Ok known) added further e =
         let rest = further (record { known = known; nodes = walked.nodes ++ node ∷ [] }) e in
         let first : known ≡ walked.known
-        ++ new_requests walk.rules.same walked.known (walk.asks node) = added-new walk.rules
-        (walk.asks node) walked.known known added in
+        ++ new_requests walk.rules.same walked.known (walk.requests node) = added-new walk.rules
+        (walk.requests node) walked.known known added in
         record {
           nodes = node ∷ rest.nodes;
           read = (read, rest.read);
           nodes_are = rest.nodes_are ∙ append_assoc walked.nodes (node ∷ []) rest.nodes;
           known_are =
               rest.known_are
-              ∙ ap (λ all. all ++ new_requests walk.rules.same all (flat_map walk.asks rest.nodes))
+              ∙ ap (λ all. all ++ new_requests walk.rules.same all (flat_map walk.requests
+              rest.nodes))
               first
               ∙ append_assoc walked.known
-              (new_requests walk.rules.same walked.known (walk.asks node)) _
+              (new_requests walk.rules.same walked.known (walk.requests node)) _
               ∙ ap (λ new. walked.known ++ new)
-              (sym (new-append walk.rules.same (walk.asks node) (flat_map walk.asks rest.nodes)
+              (sym (new-append walk.rules.same (walk.requests node) (flat_map walk.requests
+              rest.nodes)
               walked.known));
         }
 
     reading : (r : Result N E)
-        → walk.read ask ≡ r
+        → walk.read request ≡ r
         → Further
-        → with_level walk (with_node walk walked r) asks ≡ Ok after
-        → LevelRead walk walked (ask ∷ asks) after
-    reading (Err refusal) read further e = absurd (cc (sym (level-refused walk refusal asks) ∙ e))
+        → with_level walk (with_node walk walked r) requests ≡ Ok after
+        → LevelRead walk walked (request ∷ requests) after
+    reading (Err refusal) read further e = absurd
+        (cc (sym (level-refused walk refusal requests) ∙ e))
     reading (Ok node) read further e = adding node read
-        (with_asks walk.rules (Ok walked.known) (walk.asks node)) refl further e
+        (with_requests walk.rules (Ok walked.known) (walk.requests node)) refl further e
 
 -- ---- all levels
 
@@ -239,196 +247,202 @@ levels-ordered {A} {N} {E} walk (suc n) walked final within e ended =
 
 -- ---- refusals
 
-with_asks-append : {A E : Type 0} (rules : Rules A E) (r : Result (List A) E) (xs ys : List A)
-    → with_asks rules r (xs ++ ys) ≡ with_asks rules (with_asks rules r xs) ys
-with_asks-append rules (Err refusal) xs [] = refl
-with_asks-append rules (Err refusal) xs (y ∷ ys) = refl
-with_asks-append rules (Ok known) [] ys = refl
-with_asks-append rules (Ok known) (x ∷ xs) ys = with_asks-append rules
-    (with_ask rules known x) xs ys
+with_requests-append : {A E : Type 0} (rules : Rules A E) (r : Result (List A) E) (xs ys : List A)
+    → with_requests rules r (xs ++ ys) ≡ with_requests rules (with_requests rules r xs) ys
+with_requests-append rules (Err refusal) xs [] = refl
+with_requests-append rules (Err refusal) xs (y ∷ ys) = refl
+with_requests-append rules (Ok known) [] ys = refl
+with_requests-append rules (Ok known) (x ∷ xs) ys = with_requests-append rules
+    (with_request rules known x) xs ys
 
-barred-first : {A E : Type 0} (rules : Rules A E) (asks known : List A) (refusal : E)
-    → with_asks rules (Ok known) asks ≡ Err refusal
-    → IsFirstBarred rules known asks refusal
-barred-first rules [] known refusal e = absurd (cc)
-barred-first {A} {E} rules (ask ∷ asks) known refusal e =
-    by (list_any (rules.same ask) known) refl (rules.bar known ask) refl
-    (barred-first rules asks known refusal)
-    (barred-first rules asks (known ++ ask ∷ []) refusal) e
+limited-first : {A E : Type 0} (rules : Rules A E) (requests known : List A) (refusal : E)
+    → with_requests rules (Ok known) requests ≡ Err refusal
+    → IsFirstOverLimit rules known requests refusal
+limited-first rules [] known refusal e = absurd (cc)
+limited-first {A} {E} rules (request ∷ requests) known refusal e =
+    by (list_any (rules.same request) known) refl (rules.limit known request) refl
+    (limited-first rules requests known refusal)
+    (limited-first rules requests (known ++ request ∷ []) refusal) e
   where
-    stands : list_any (rules.same ask) known ≡ true
-        → IsFirstBarred rules known asks refusal
-        → IsFirstBarred rules known (ask ∷ asks) refusal
+    stands : list_any (rules.same request) known ≡ true
+        → IsFirstOverLimit rules known requests refusal
+        → IsFirstOverLimit rules known (request ∷ requests) refusal
     stands there rest =
-        let same : new_requests rules.same known (ask ∷ rest.before)
+        let same : new_requests rules.same known (request ∷ rest.before)
         ≡ new_requests rules.same known rest.before = cond-true _ _ _ there in
         record {
-          before = ask ∷ rest.before;
+          before = request ∷ rest.before;
           request = rest.request;
           behind = rest.behind;
-          are = ap (λ l. ask ∷ l) rest.are;
-          added = ap (λ r. with_asks rules r rest.before) (cond-true _ _ _ there) ∙ rest.added
+          are = ap (λ l. request ∷ l) rest.are;
+          added = ap (λ r. with_requests rules r rest.before) (cond-true _ _ _ there) ∙ rest.added
               ∙ ap (λ new. Ok (known ++ new)) (sym same);
           new = ap (λ new. list_any (rules.same rest.request) (known ++ new)) same ∙ rest.new;
-          barred = ap (λ new. rules.bar (known ++ new) rest.request) same ∙ rest.barred;
+          over_limit = ap (λ new. rules.limit (known ++ new) rest.request) same ∙ rest.over_limit;
         }
 
-    adds : list_any (rules.same ask) known ≡ false
-        → rules.bar known ask ≡ None
-        → IsFirstBarred rules (known ++ ask ∷ []) asks refusal
-        → IsFirstBarred rules known (ask ∷ asks) refusal
+    adds : list_any (rules.same request) known ≡ false
+        → rules.limit known request ≡ None
+        → IsFirstOverLimit rules (known ++ request ∷ []) requests refusal
+        → IsFirstOverLimit rules known (request ∷ requests) refusal
     adds new none rest =
-        let here_new = new_requests rules.same (known ++ ask ∷ []) rest.before in
-        let more : known ++ new_requests rules.same known (ask ∷ rest.before) ≡ (known ++ ask ∷ [])
+        let here_new = new_requests rules.same (known ++ request ∷ []) rest.before in
+        let more : known ++ new_requests rules.same known (request ∷ rest.before)
+        ≡ (known ++ request ∷ [])
         ++ here_new = ap (λ l. known ++ l) (cond-false _ _ _ new)
-        ∙ sym (append_assoc known (ask ∷ []) here_new) in
+        ∙ sym (append_assoc known (request ∷ []) here_new) in
         record {
-          before = ask ∷ rest.before;
+          before = request ∷ rest.before;
           request = rest.request;
           behind = rest.behind;
-          are = ap (λ l. ask ∷ l) rest.are;
-          added = ap (λ r. with_asks rules r rest.before)
-              (cond-false _ _ _ new ∙ ap (unless_barred known ask) none) ∙ rest.added
+          are = ap (λ l. request ∷ l) rest.are;
+          added = ap (λ r. with_requests rules r rest.before)
+              (cond-false _ _ _ new ∙ ap (within_limit known request) none) ∙ rest.added
               ∙ ap Ok (sym more);
           new = ap (list_any (rules.same rest.request)) more ∙ rest.new;
-          barred = ap (λ all. rules.bar all rest.request) more ∙ rest.barred;
+          over_limit = ap (λ all. rules.limit all rest.request) more ∙ rest.over_limit;
         }
 
     first : (refused : E)
-        → list_any (rules.same ask) known ≡ false
-        → rules.bar known ask ≡ Some refused
+        → list_any (rules.same request) known ≡ false
+        → rules.limit known request ≡ Some refused
         → refused ≡ refusal
-        → IsFirstBarred rules known (ask ∷ asks) refusal
-    first refused new bar is = record {
+        → IsFirstOverLimit rules known (request ∷ requests) refusal
+    first refused new limit is = record {
       before = [];
-      request = ask;
-      behind = asks;
+      request = request;
+      behind = requests;
       are = refl;
       added = ap Ok (sym (append-nil known));
-      new = ap (list_any (rules.same ask)) (append-nil known) ∙ new;
-      barred = ap (λ all. rules.bar all ask) (append-nil known) ∙ bar ∙ ap Some is;
+      new = ap (list_any (rules.same request)) (append-nil known) ∙ new;
+      over_limit = ap (λ all. rules.limit all request) (append-nil known) ∙ limit ∙ ap Some is;
     }
 
     by : (there : Bool)
-        → list_any (rules.same ask) known ≡ there
-        → (bar : Option E)
-        → rules.bar known ask ≡ bar
-        → (with_asks rules (Ok known) asks ≡ Err refusal → IsFirstBarred rules known asks refusal)
-        → (with_asks rules (Ok (known ++ ask ∷ [])) asks ≡ Err refusal
-        → IsFirstBarred rules (known ++ ask ∷ []) asks refusal)
-        → with_asks rules (if there then Ok known else unless_barred known ask bar) asks ≡ Err refusal
-        → IsFirstBarred rules known (ask ∷ asks) refusal
-    by true there bar is stay add e = stands there (stay e)
+        → list_any (rules.same request) known ≡ there
+        → (limit : Option E)
+        → rules.limit known request ≡ limit
+        → (with_requests rules (Ok known) requests ≡ Err refusal
+        → IsFirstOverLimit rules known requests refusal)
+        → (with_requests rules (Ok (known ++ request ∷ [])) requests ≡ Err refusal
+        → IsFirstOverLimit rules (known ++ request ∷ []) requests refusal)
+        → with_requests rules
+        (if there then Ok known else within_limit known request limit) requests ≡ Err refusal
+        → IsFirstOverLimit rules known (request ∷ requests) refusal
+    by true there limit is stay add e = stands there (stay e)
     by false there None is stay add e = adds there is (add e)
-    by false there (Some refused) is stay add e = first refused there is (refused-is asks refused e)
+    by false there (Some refused) is stay add e = first refused there is
+        (refused-is requests refused e)
       where
         refused-is : (l : List A) (one : E)
-            → with_asks rules (Err one) l ≡ Err refusal
+            → with_requests rules (Err one) l ≡ Err refusal
             → one ≡ refusal
         refused-is [] one e = cc
         refused-is (x ∷ l) one e = cc
 
 -- the first request of a level at which the walk is refused
-record LevelRefused {A N E : Type 0} (walk : Walk A N E) (known asks : List A)
+record LevelRefused {A N E : Type 0} (walk : Walk A N E) (known requests : List A)
     (refusal : E) : Type 0 where
   front : List A
   request : A
   rest : List A
   nodes : List N
-  are : asks ≡ front ++ request ∷ rest
+  are : requests ≡ front ++ request ∷ rest
   read : AreRead walk front nodes
-  added : with_asks walk.rules (Ok known) (flat_map walk.asks nodes)
+  added : with_requests walk.rules (Ok known) (flat_map walk.requests nodes)
       ≡ Ok (known ++ next_of walk known nodes)
   refused : IsRefusedAt walk (known ++ next_of walk known nodes) request refusal
 
-level-first : {A N E : Type 0} (walk : Walk A N E) (asks : List A) (walked : Walked A N)
+level-first : {A N E : Type 0} (walk : Walk A N E) (requests : List A) (walked : Walked A N)
     (refusal : E)
-    → with_level walk (Ok walked) asks ≡ Err refusal
-    → LevelRefused walk walked.known asks refusal
+    → with_level walk (Ok walked) requests ≡ Err refusal
+    → LevelRefused walk walked.known requests refusal
 level-first walk [] walked refusal e = absurd (cc)
-level-first {A} {N} {E} walk (ask ∷ asks) walked refusal e = reading (walk.read ask) refl
-    (λ middle. level-first walk asks middle refusal) e
+level-first {A} {N} {E} walk (request ∷ requests) walked refusal e = reading
+    (walk.read request) refl
+    (λ middle. level-first walk requests middle refusal) e
   where
-    at_once : IsRefusedAt walk walked.known ask refusal
-        → LevelRefused walk walked.known (ask ∷ asks) refusal
+    at_once : IsRefusedAt walk walked.known request refusal
+        → LevelRefused walk walked.known (request ∷ requests) refusal
     at_once refused = record {
       front = [];
-      request = ask;
-      rest = asks;
+      request = request;
+      rest = requests;
       nodes = [];
       are = refl;
       read = tt;
       added = ap Ok (sym (append-nil walked.known));
-      refused = subst (λ known. IsRefusedAt walk known ask refusal)
+      refused = subst (λ known. IsRefusedAt walk known request refusal)
           (sym (append-nil walked.known)) refused;
     }
 
     Further : Type 0
     Further = (middle : Walked A N)
-        → with_level walk (Ok middle) asks ≡ Err refusal
-        → LevelRefused walk middle.known asks refusal
+        → with_level walk (Ok middle) requests ≡ Err refusal
+        → LevelRefused walk middle.known requests refusal
 
     behind : (node : N)
-        → walk.read ask ≡ Ok node
+        → walk.read request ≡ Ok node
         → (known : List A)
-        → with_asks walk.rules (Ok walked.known) (walk.asks node) ≡ Ok known
-        → LevelRefused walk known asks refusal
-        → LevelRefused walk walked.known (ask ∷ asks) refusal
+        → with_requests walk.rules (Ok walked.known) (walk.requests node) ≡ Ok known
+        → LevelRefused walk known requests refusal
+        → LevelRefused walk walked.known (request ∷ requests) refusal
     behind node read known added rest =
         let first : known ≡ walked.known
-        ++ new_requests walk.rules.same walked.known (walk.asks node) = added-new walk.rules
-        (walk.asks node) walked.known known added in
-        let new = new_requests walk.rules.same walked.known (walk.asks node) in
+        ++ new_requests walk.rules.same walked.known (walk.requests node) = added-new walk.rules
+        (walk.requests node) walked.known known added in
+        let new = new_requests walk.rules.same walked.known (walk.requests node) in
         let all : known ++ next_of walk known rest.nodes ≡ walked.known
         ++ next_of walk walked.known (node ∷ rest.nodes) =
-        ap (λ k. k ++ new_requests walk.rules.same k (flat_map walk.asks rest.nodes)) first
+        ap (λ k. k ++ new_requests walk.rules.same k (flat_map walk.requests rest.nodes)) first
         ∙ append_assoc walked.known new _
         ∙ ap (λ l. walked.known ++ l)
-        (sym (new-append walk.rules.same (walk.asks node) (flat_map walk.asks rest.nodes)
+        (sym (new-append walk.rules.same (walk.requests node) (flat_map walk.requests rest.nodes)
         walked.known)) in
         record {
-          front = ask ∷ rest.front;
+          front = request ∷ rest.front;
           request = rest.request;
           rest = rest.rest;
           nodes = node ∷ rest.nodes;
-          are = ap (λ l. ask ∷ l) rest.are;
+          are = ap (λ l. request ∷ l) rest.are;
           read = (read, rest.read);
           added =
-              with_asks-append walk.rules (Ok walked.known) (walk.asks node)
-              (flat_map walk.asks rest.nodes)
-              ∙ ap (λ r. with_asks walk.rules r (flat_map walk.asks rest.nodes)) added ∙ rest.added
+              with_requests-append walk.rules (Ok walked.known) (walk.requests node)
+              (flat_map walk.requests rest.nodes)
+              ∙ ap (λ r. with_requests walk.rules r (flat_map walk.requests rest.nodes)) added
+              ∙ rest.added
               ∙ ap Ok all;
           refused = subst (λ k. IsRefusedAt walk k rest.request refusal) all rest.refused;
         }
 
     adding : (node : N)
-        → walk.read ask ≡ Ok node
+        → walk.read request ≡ Ok node
         → (r : Result (List A) E)
-        → with_asks walk.rules (Ok walked.known) (walk.asks node) ≡ r
+        → with_requests walk.rules (Ok walked.known) (walk.requests node) ≡ r
         → Further
-        → with_level walk (walked_with walked.nodes node r) asks ≡ Err refusal
-        → LevelRefused walk walked.known (ask ∷ asks) refusal
+        → with_level walk (walked_with walked.nodes node r) requests ≡ Err refusal
+        → LevelRefused walk walked.known (request ∷ requests) refusal
     adding node read (Err other) added further e =
-        let is : other ≡ refusal = cc (sym (level-refused walk other asks) ∙ e) in
+        let is : other ≡ refusal = cc (sym (level-refused walk other requests) ∙ e) in
         at_once (inr (
           node,
           read,
-          barred-first walk.rules (walk.asks node) walked.known refusal
+          limited-first walk.rules (walk.requests node) walked.known refusal
               (added ∙ ap Err is),
         ))
     adding node read (Ok known) added further e = behind node read known added
         (further (record { known = known; nodes = walked.nodes ++ node ∷ [] }) e)
 
     reading : (r : Result N E)
-        → walk.read ask ≡ r
+        → walk.read request ≡ r
         → Further
-        → with_level walk (with_node walk walked r) asks ≡ Err refusal
-        → LevelRefused walk walked.known (ask ∷ asks) refusal
+        → with_level walk (with_node walk walked r) requests ≡ Err refusal
+        → LevelRefused walk walked.known (request ∷ requests) refusal
     reading (Err other) read further e =
-        let is : other ≡ refusal = cc (sym (level-refused walk other asks) ∙ e) in
+        let is : other ≡ refusal = cc (sym (level-refused walk other requests) ∙ e) in
         at_once (inl (read ∙ ap Err is))
     reading (Ok node) read further e = adding node read
-        (with_asks walk.rules (Ok walked.known) (walk.asks node)) refl further e
+        (with_requests walk.rules (Ok walked.known) (walk.requests node)) refl further e
 
 pub levels-first_refusal : {A N E : Type 0} (walk : Walk A N E) (n : ℕ) (walked : Walked A N)
     (refusal : E)
@@ -452,7 +466,8 @@ levels-first_refusal {A} {N} {E} walk (suc n) walked refusal within e =
         → length after.nodes ≤ length after.known
         → levels walk n (Ok after) ≡ Err refusal
         → IsFirstRefusal walk after.known (next_level after) refusal)
-        → levels walk n r ≡ Err refusal → IsFirstRefusal walk walked.known (next_level walked) refusal
+        → levels walk n r ≡ Err refusal
+        → IsFirstRefusal walk walked.known (next_level walked) refusal
     by (Err other) is further e =
         let same : other ≡ refusal = cc (sym (levels-refused walk n other) ∙ e) in
         at_level (level-first walk (next_level walked) walked refusal (is ∙ ap Err same))

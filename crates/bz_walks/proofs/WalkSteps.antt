@@ -6,10 +6,10 @@ use Rattle.std.proofs.Math.ListN.{drop_of_length-le}
 use Rattle.std.proofs.lemmas.List.{append-nil, length-append, drop-drop, drop-append-le}
 use Rattle.std.proofs.lemmas.List.{length_push, length-drop}
 use Rattle.std.specs.List.{list_any}
-use Rattle.bz_walks.specs.Walks.{Rules, Walk, Walked, levels, next_level, unless_barred}
-use Rattle.bz_walks.specs.Walks.{walked_with, with_ask, with_asks, with_level, with_node}
+use Rattle.bz_walks.specs.Walks.{Rules, Walk, Walked, levels, next_level, within_limit}
+use Rattle.bz_walks.specs.Walks.{walked_with, with_request, with_requests, with_level, with_node}
 
--- the node of the first ask that is left, and then on
+-- the node of the first request that is left, and then on
 abbrev pub walk_next : {A N E : Type 0}
     → (Result (Walked A N) E → Result (Walked A N) E)
     → Walk A N E
@@ -17,9 +17,9 @@ abbrev pub walk_next : {A N E : Type 0}
     → List A
     → Result (Walked A N) E
 walk_next on walk walked [] = Ok walked
-walk_next on walk walked (ask ∷ rest) = on (with_node walk walked (walk.read ask))
+walk_next on walk walked (request ∷ rest) = on (with_node walk walked (walk.read request))
 
--- from the walk on, the node of the first ask that is not read yet, so many times at most
+-- from the walk on, the node of the first request that is not read yet, so many times at most
 unfoldable pub walk_on : {A N E : Type 0}
     → Walk A N E
     → ℕ
@@ -49,40 +49,44 @@ Grows-on {A} {known} {middle} {more} first second =
           ∙ append_assoc known first.extra second.extra;
     }
 
-pub with_ask-grows : {A E : Type 0} (rules : Rules A E) (known : List A) (ask : A) (more : List A)
-    → with_ask rules known ask ≡ Ok more
+pub with_request-grows : {A E : Type 0} (rules : Rules A E) (known : List A) (request : A)
+    (more : List A)
+    → with_request rules known request ≡ Ok more
     → Grows known more
-with_ask-grows {A} {E} rules known ask more = by (list_any (rules.same ask) known)
-    (rules.bar known ask)
+with_request-grows {A} {E} rules known request more = by (list_any (rules.same request) known)
+    (rules.limit known request)
   where
-    by : (there : Bool) (bar : Option E)
-        → (if there then Ok known else unless_barred known ask bar) ≡ Ok more
+    by : (there : Bool) (limit : Option E)
+        → (if there then Ok known else within_limit known request limit) ≡ Ok more
         → Grows known more
-    by true bar e = Grows-same known more (cc e)
-    by false None e = record { extra = ask ∷ []; behind = cc e }
+    by true limit e = Grows-same known more (cc e)
+    by false None e = record { extra = request ∷ []; behind = cc e }
     by false (Some refusal) e = absurd (cc e)
 
-pub with_asks-grows : {A E : Type 0} (rules : Rules A E) (asks known more : List A)
-    → with_asks rules (Ok known) asks ≡ Ok more
+pub with_requests-grows : {A E : Type 0} (rules : Rules A E) (requests known more : List A)
+    → with_requests rules (Ok known) requests ≡ Ok more
     → Grows known more
-with_asks-grows rules [] known more e = Grows-same known more (cc e)
-with_asks-grows {A} {E} rules (ask ∷ asks) known more e = by (with_ask rules known ask)
-    (λ middle. with_asks-grows rules asks middle more)
-    (λ middle. with_ask-grows rules known ask middle) e
+with_requests-grows rules [] known more e = Grows-same known more (cc e)
+with_requests-grows {A} {E} rules (request ∷ requests) known more e = by
+    (with_request rules known request)
+    (λ middle. with_requests-grows rules requests middle more)
+    (λ middle. with_request-grows rules known request middle) e
   where
     by : (r : Result (List A) E)
-        → ((middle : List A) → with_asks rules (Ok middle) asks ≡ Ok more → Grows middle more)
+        → ((middle : List A)
+        → with_requests rules (Ok middle) requests ≡ Ok more
+        → Grows middle more)
         → ((middle : List A) → r ≡ Ok middle → Grows known middle)
-        → with_asks rules r asks ≡ Ok more
+        → with_requests rules r requests ≡ Ok more
         → Grows known more
     by (Ok middle) further first e = Grows-on (first middle refl) (further middle e)
     by (Err refusal) further first e = absurd (cc e)
 
 -- what is left behind the first of it
-drop-behind : {A : Type 0} (n : ℕ) (known extra : List A) (ask : A) (rest : List A)
-    → drop n known ≡ ask ∷ rest
+drop-behind : {A : Type 0} (n : ℕ) (known extra : List A) (request : A) (rest : List A)
+    → drop n known ≡ request ∷ rest
     → drop (n + 1) (known ++ extra) ≡ rest ++ extra
-drop-behind {A} n known extra ask rest e =
+drop-behind {A} n known extra request rest e =
     let long : length (drop n known) ≡ suc (length rest) = ap length e in
     let within : n + 1 ≤ length known = omega (arith, length-drop n known, long) in
     drop-append-le (n + 1) known extra within
@@ -91,7 +95,7 @@ drop-behind {A} n known extra ask rest e =
 with_level-refused : {A N E : Type 0} (walk : Walk A N E) (refusal : E) (level : List A)
     → with_level walk (Err refusal) level ≡ Err refusal
 with_level-refused walk refusal [] = refl
-with_level-refused walk refusal (ask ∷ level) = refl
+with_level-refused walk refusal (request ∷ level) = refl
 
 pub walk_on-refused : {A N E : Type 0} (walk : Walk A N E) (n : ℕ) (refusal : E)
     → walk_on walk n (Err refusal) ≡ Err refusal
@@ -106,12 +110,12 @@ unfolding walk_on
 walk_on-ended walk zero walked e = refl
 walk_on-ended walk (suc n) walked e = ap (walk_next (walk_on walk n) walk walked) e
 
-pub walk_on-step : {A N E : Type 0} (walk : Walk A N E) (n : ℕ) (walked : Walked A N) (ask : A)
+pub walk_on-step : {A N E : Type 0} (walk : Walk A N E) (n : ℕ) (walked : Walked A N) (request : A)
     (rest : List A)
-    → next_level walked ≡ ask ∷ rest
-    → walk_on walk (suc n) (Ok walked) ≡ walk_on walk n (with_node walk walked (walk.read ask))
+    → next_level walked ≡ request ∷ rest
+    → walk_on walk (suc n) (Ok walked) ≡ walk_on walk n (with_node walk walked (walk.read request))
 unfolding walk_on
-walk_on-step walk n walked ask rest e = ap (walk_next (walk_on walk n) walk walked) e
+walk_on-step walk n walked request rest e = ap (walk_next (walk_on walk n) walk walked) e
 
 -- a level is so many nodes
 walk_on-level : {A N E : Type 0} (walk : Walk A N E) (level rest : List A) (walked : Walked A N)
@@ -122,10 +126,10 @@ walk_on-level : {A N E : Type 0} (walk : Walk A N E) (level rest : List A) (walk
 walk_on-level walk [] rest walked e n m sum =
     let same : n ≡ m = omega (arith, sum) in
     ap (λ k. walk_on walk k (Ok walked)) same
-walk_on-level walk (ask ∷ level) rest walked e zero m sum = absurd (omega (arith, sum))
-walk_on-level {A} {N} {E} walk (ask ∷ level) rest walked e (suc n) m sum =
-    walk_on-step walk n walked ask (level ++ rest) e
-    ∙ by (walk.read ask)
+walk_on-level walk (request ∷ level) rest walked e zero m sum = absurd (omega (arith, sum))
+walk_on-level {A} {N} {E} walk (request ∷ level) rest walked e (suc n) m sum =
+    walk_on-step walk n walked request (level ++ rest) e
+    ∙ by (walk.read request)
     (λ after more left. walk_on-level walk level more after left n m (omega (arith, sum)))
   where
     refused : (refusal : E)
@@ -146,7 +150,7 @@ walk_on-level {A} {N} {E} walk (ask ∷ level) rest walked e (suc n) m sum =
         further (record { known = known; nodes = walked.nodes ++ node ∷ [] }) (rest ++ grown.extra)
         (ap (λ k. drop k known) (length_push walked.nodes node)
         ∙ ap (drop (length walked.nodes + 1)) grown.behind
-        ∙ drop-behind (length walked.nodes) walked.known grown.extra ask (level ++ rest) e
+        ∙ drop-behind (length walked.nodes) walked.known grown.extra request (level ++ rest) e
         ∙ append_assoc level rest grown.extra)
 
     by : (read : Result N E)
@@ -156,10 +160,11 @@ walk_on-level {A} {N} {E} walk (ask ∷ level) rest walked e (suc n) m sum =
         → walk_on walk n (with_node walk walked read)
         ≡ walk_on walk m (with_level walk (with_node walk walked read) level)
     by (Err refusal) further = refused refusal
-    by (Ok node) further = added node (with_asks walk.rules (Ok walked.known) (walk.asks node))
-        (with_asks-grows walk.rules (walk.asks node) walked.known) further
+    by (Ok node) further = added node
+        (with_requests walk.rules (Ok walked.known) (walk.requests node))
+        (with_requests-grows walk.rules (walk.requests node) walked.known) further
 
--- what a level leaves: one node an ask, and of the asks all that were known
+-- what a level leaves: one node a request, and of the requests all that were known
 pub record AfterLevel {A N : Type 0} (P : List A → Type 0) (walked : Walked A N) (level : List A)
     (after : Walked A N) : Type 0 where
   pub holds : P after.known
@@ -168,10 +173,10 @@ pub record AfterLevel {A N : Type 0} (P : List A → Type 0) (walked : Walked A 
 
 -- the property of what is known is kept by each node that is read
 abbrev pub Keeps : {A N E : Type 0} → Walk A N E → (List A → Type 0) → Type 0
-Keeps {A} {N} walk P = (known more : List A) (ask : A) (node : N)
+Keeps {A} {N} walk P = (known more : List A) (request : A) (node : N)
     → P known
-    → walk.read ask ≡ Ok node
-    → with_asks walk.rules (Ok known) (walk.asks node) ≡ Ok more
+    → walk.read request ≡ Ok node
+    → with_requests walk.rules (Ok known) (walk.requests node) ≡ Ok more
     → P more
 
 with_level-after : {A N E : Type 0} (walk : Walk A N E) (P : List A → Type 0)
@@ -184,8 +189,8 @@ with_level-after walk P kept [] walked after holds e =
     let same : walked ≡ after = cc e in
     subst (AfterLevel P walked []) same
     (record { holds = holds; count = omega arith; grows = omega arith })
-with_level-after {A} {N} {E} walk P kept (ask ∷ level) walked after holds e =
-    by (walk.read ask) (λ node more. kept walked.known more ask node holds)
+with_level-after {A} {N} {E} walk P kept (request ∷ level) walked after holds e =
+    by (walk.read request) (λ node more. kept walked.known more request node holds)
     (λ middle. with_level-after walk P kept level middle after) e
   where
     added : (node : N) (r : Result (List A) E)
@@ -196,7 +201,7 @@ with_level-after {A} {N} {E} walk P kept (ask ∷ level) walked after holds e =
         → with_level walk (Ok middle) level ≡ Ok after
         → AfterLevel P middle level after)
         → with_level walk (walked_with walked.nodes node r) level ≡ Ok after
-        → AfterLevel P walked (ask ∷ level) after
+        → AfterLevel P walked (request ∷ level) after
     added node (Err refusal) holding grows further e = absurd
         (cc (sym (with_level-refused walk refusal level) ∙ e))
     added node (Ok known) holding grows further e =
@@ -218,19 +223,20 @@ with_level-after {A} {N} {E} walk P kept (ask ∷ level) walked after holds e =
     by : (read : Result N E)
         → ((node : N) (more : List A)
         → read ≡ Ok node
-        → with_asks walk.rules (Ok walked.known) (walk.asks node) ≡ Ok more
+        → with_requests walk.rules (Ok walked.known) (walk.requests node) ≡ Ok more
         → P more)
         → ((middle : Walked A N)
         → P middle.known
         → with_level walk (Ok middle) level ≡ Ok after
         → AfterLevel P middle level after)
         → with_level walk (with_node walk walked read) level ≡ Ok after
-        → AfterLevel P walked (ask ∷ level) after
+        → AfterLevel P walked (request ∷ level) after
     by (Err refusal) keeping further e = absurd
         (cc (sym (with_level-refused walk refusal level) ∙ e))
     by (Ok node) keeping further e = added node
-        (with_asks walk.rules (Ok walked.known) (walk.asks node)) (λ known. keeping node known refl)
-        (with_asks-grows walk.rules (walk.asks node) walked.known) further e
+        (with_requests walk.rules (Ok walked.known) (walk.requests node))
+        (λ known. keeping node known refl)
+        (with_requests-grows walk.rules (walk.requests node) walked.known) further e
 
 pub levels-refused : {A N E : Type 0} (walk : Walk A N E) (n : ℕ) (refusal : E)
     → levels walk n (Err refusal) ≡ Err refusal
@@ -284,18 +290,18 @@ levels-walk_on {A} {N} {E} walk P most bounded kept walked holds within (suc n) 
     left : length (next_level walked) + length walked.nodes ≡ length walked.known
     left = omega (arith, length-drop (length walked.nodes) walked.known, within)
 
-    behind : (ask : A) (level : List A)
-        → length (ask ∷ level) + length walked.nodes ≡ length walked.known
+    behind : (request : A) (level : List A)
+        → length (request ∷ level) + length walked.nodes ≡ length walked.known
         → (k : ℕ)
-        → m ≡ length (ask ∷ level) + k
+        → m ≡ length (request ∷ level) + k
         → Agrees walk P most n
         → (r : Result (Walked A N) E)
-        → ((after : Walked A N) → r ≡ Ok after → AfterLevel P walked (ask ∷ level) after)
+        → ((after : Walked A N) → r ≡ Ok after → AfterLevel P walked (request ∷ level) after)
         → levels walk n r ≡ walk_on walk k r
-    behind ask level count k sum further (Err refusal) leaves = levels-refused walk n refusal
+    behind request level count k sum further (Err refusal) leaves = levels-refused walk n refusal
         ∙ sym (walk_on-refused walk k refusal)
-    behind ask level count k sum further (Ok after) leaves =
-        let left_by : AfterLevel P walked (ask ∷ level) after = leaves after refl in
+    behind request level count k sum further (Ok after) leaves =
+        let left_by : AfterLevel P walked (request ∷ level) after = leaves after refl in
         further after k left_by.holds (omega (arith, left_by.count, left_by.grows, count))
         (omega (arith, left_by.count, turns)) (omega (arith, left_by.count, others, sum))
 
@@ -306,18 +312,19 @@ levels-walk_on {A} {N} {E} walk P most bounded kept walked holds within (suc n) 
         ≡ walk_on walk m (Ok walked)
     by [] e further = ap (λ l. levels walk n (with_level walk (Ok walked) l)) e
         ∙ levels-ended walk n walked e ∙ sym (walk_on-ended walk m walked e)
-    by (ask ∷ level) e further =
-        let count : length (ask ∷ level) + length walked.nodes
+    by (request ∷ level) e further =
+        let count : length (request ∷ level) + length walked.nodes
         ≡ length walked.known = ap (λ l. length l + length walked.nodes) (sym e) ∙ left in
-        let sum : m ≡ length (ask ∷ level) + (m - length (ask ∷ level)) = omega (
+        let sum : m ≡ length (request ∷ level) + (m - length (request ∷ level)) = omega (
           arith,
           count,
           bounded walked.known holds,
           others,
         ) in
         ap (λ l. levels walk n (with_level walk (Ok walked) l)) e
-        ∙ behind ask level count (m - length (ask ∷ level)) sum further
-        (with_level walk (Ok walked) (ask ∷ level))
-        (λ after. with_level-after walk P kept (ask ∷ level) walked after holds)
-        ∙ sym (walk_on-level walk (ask ∷ level) [] walked (e ∙ sym (append-nil (ask ∷ level))) m (m
-        - length (ask ∷ level)) sum)
+        ∙ behind request level count (m - length (request ∷ level)) sum further
+        (with_level walk (Ok walked) (request ∷ level))
+        (λ after. with_level-after walk P kept (request ∷ level) walked after holds)
+        ∙ sym (walk_on-level walk (request ∷ level) [] walked (e ∙ sym (append-nil (request ∷
+        level))) m (m
+        - length (request ∷ level)) sum)

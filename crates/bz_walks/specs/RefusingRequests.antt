@@ -17,16 +17,17 @@ same_made same (Err refusal) (Ok other) = false
 same_made same (Err refusal) (Err other) = true
 
 -- a refused request may not stand, for its own reason
-abbrev pub barred_or_refused : {A E : Type 0}
+abbrev pub limited_or_refused : {A E : Type 0}
     → (List A → A → Option E)
     → List (Result A E)
     → Result A E
     → Option E
-barred_or_refused bar known (Ok request) = bar (made known) request
-barred_or_refused bar known (Err refusal) = Some refusal
+limited_or_refused limit known (Ok request) = limit (made known) request
+limited_or_refused limit known (Err refusal) = Some refusal
 
 abbrev pub refusing_rules : {A E : Type 0} → Rules A E → Rules (Result A E) E
-refusing_rules rules = record { same = same_made rules.same; bar = barred_or_refused rules.bar }
+refusing_rules rules = record
+    { same = same_made rules.same; limit = limited_or_refused rules.limit }
 
 abbrev pub read_made : {A N E : Type 0} → (A → Result N E) → Result A E → Result N E
 read_made read (Ok request) = read request
@@ -39,4 +40,4 @@ abbrev pub refusing : {A N E : Type 0}
     → (N → List (Result A E))
     → Walk (Result A E) N E
 refusing rules read requests =
-    record { rules = refusing_rules rules; read = read_made read; asks = requests }
+    record { rules = refusing_rules rules; read = read_made read; requests = requests }

@@ -2,7 +2,7 @@
 -- round.
 use Rattle.std.specs.Prelude.{ℕ, zero, suc, if◌then◌else◌, List, Result, Ok, Err}
 use Rattle.std.specs.List.{list_all, list_any}
-use Rattle.bz_walks.specs.Walks.{Walk, Walked, levels, with_asks}
+use Rattle.bz_walks.specs.Walks.{Walk, Walked, levels, with_requests}
 
 -- the same nodes with more requests
 abbrev pub walked_on : {A N E : Type 0} → List N → Result (List A) E → Result (Walked A N) E
@@ -20,7 +20,8 @@ next_round on walk follow (Err refusal) = Err refusal
 next_round on walk follow (Ok walked) =
     if list_all (λ request. list_any (walk.rules.same request) walked.known)
     (follow walked.nodes) then Ok walked
-    else on (walked_on walked.nodes (with_asks walk.rules (Ok walked.known) (follow walked.nodes)))
+    else on (walked_on walked.nodes (with_requests walk.rules (Ok walked.known) (follow
+    walked.nodes)))
 
 -- so many rounds at most, each of so many levels at most
 unfoldable pub rounds : {A N E : Type 0}

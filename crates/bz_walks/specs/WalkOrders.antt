@@ -3,7 +3,7 @@
 use Rattle.std.specs.Prelude.{◌≡◌, Bool, false, if◌then◌else◌, List, [], ◌∷◌, ◌++◌, flat_map, Some}
 use Rattle.std.specs.Prelude.{Ok, Err, ◌⊎◌}
 use Rattle.std.specs.List.{AllZip, list_any}
-use Rattle.bz_walks.specs.Walks.{Rules, Walk, Walked, next_level, with_asks}
+use Rattle.bz_walks.specs.Walks.{Rules, Walk, Walked, next_level, with_requests}
 
 -- the requests that are one with no earlier request, in order, each once
 abbrev pub new_requests : {A : Type 0} → (A → A → Bool) → List A → List A → List A
@@ -14,7 +14,7 @@ new_requests same earlier (request ∷ requests) =
 
 -- what the nodes of a level ask for and nothing before them asked for, in order: the next level
 abbrev pub next_of : {A N E : Type 0} → Walk A N E → List A → List N → List A
-next_of walk earlier nodes = new_requests walk.rules.same earlier (flat_map walk.asks nodes)
+next_of walk earlier nodes = new_requests walk.rules.same earlier (flat_map walk.requests nodes)
 
 -- each node is what its request leads to, in order
 abbrev pub AreRead : {A N E : Type 0} → Walk A N E → List A → List N → Type 0
@@ -36,31 +36,32 @@ pub data FollowLevels {A N E : Type 0} (walk : Walk A N E) : List A
       → FollowLevels walk earlier level (next_of walk earlier nodes ++ behind) (nodes ++ further)
 
 -- of some requests the first that is new and may not stand is refused so
-pub record IsFirstBarred {A E : Type 0} (rules : Rules A E) (earlier requests : List A)
+pub record IsFirstOverLimit {A E : Type 0} (rules : Rules A E) (earlier requests : List A)
     (refusal : E) : Type 0 where
   pub before : List A
   pub request : A
   pub behind : List A
   pub are : requests ≡ before ++ request ∷ behind
-  pub added : with_asks rules (Ok earlier) before
+  pub added : with_requests rules (Ok earlier) before
       ≡ Ok (earlier ++ new_requests rules.same earlier before)
   pub new : list_any (rules.same request) (earlier ++ new_requests rules.same earlier before)
       ≡ false
-  pub barred : rules.bar (earlier ++ new_requests rules.same earlier before) request ≡ Some refusal
+  pub over_limit : rules.limit (earlier ++ new_requests rules.same earlier before) request
+      ≡ Some refusal
 
 -- a node's request can't be read, or one of the requests of the node is refused
 abbrev pub IsRefusedAt : {A N E : Type 0} → Walk A N E → List A → A → E → Type 0
 IsRefusedAt {A} {N} walk earlier request refusal =
     (walk.read request ≡ Err refusal)
     ⊎ ((node : N) × (walk.read request ≡ Ok node)
-    × IsFirstBarred walk.rules earlier (walk.asks node) refusal)
+    × IsFirstOverLimit walk.rules earlier (walk.requests node) refusal)
 
 -- the first refusal, level by level: all requests before it in its level are read and what their
 -- nodes ask for is added
 pub data IsFirstRefusal {A N E : Type 0} (walk : Walk A N E) : List A → List A → E → Type 0 where
   here : (earlier front : List A) (request : A) (rest : List A) (nodes : List N) (refusal : E)
       → AreRead walk front nodes
-      → with_asks walk.rules (Ok earlier) (flat_map walk.asks nodes)
+      → with_requests walk.rules (Ok earlier) (flat_map walk.requests nodes)
       ≡ Ok (earlier ++ next_of walk earlier nodes)
       → IsRefusedAt walk (earlier ++ next_of walk earlier nodes) request refusal
       → IsFirstRefusal walk earlier (front ++ request ∷ rest) refusal

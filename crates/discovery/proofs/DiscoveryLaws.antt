@@ -21,22 +21,22 @@ use Rattle.bz_base.specs.declared.module_key.Key.{Key}
 use Rattle.bz_base.specs.declared.refusals.Refusal.{Refusal}
 use Rattle.bz_tree.specs.declared.tree.Found.{Found}
 use Rattle.bz_tree.specs.declared.tree.Found.TheVariants.{Bytes, Large, Listing, Absent}
-use Rattle.discovery.proofs.Discoveries.{HasRoom, levels-nodes, walked_as, walked_with-barred}
-use Rattle.discovery.proofs.Discoveries.{with_asks-longer, with_asks-room}
+use Rattle.discovery.proofs.Discoveries.{HasRoom, levels-nodes, walked_as, walked_with-limited}
+use Rattle.discovery.proofs.Discoveries.{with_requests-longer, with_requests-room}
 use Rattle.bz_walks.proofs.EachItem.{AllByRecursion-both, AllByRecursion-right}
 use Rattle.bz_walks.proofs.EachItem.{AllByRecursion-weaker, AllZip-beside, AllZip-weaker}
 use Rattle.bz_walks.proofs.WalkLaws.{AllPassing, IsEnded, IsReadBy, IsWalked-first, IsWhole}
 use Rattle.bz_walks.proofs.WalkLaws.{PassesOn, Stands, walk_on-ends}
-use Rattle.discovery.specs.Discovery.{ask_of, asks_of, declared_as, discovered, discovery}
+use Rattle.discovery.specs.Discovery.{request_of, requests_of, declared_as, discovered, discovery}
 use Rattle.discovery.specs.Discovery.{discovery_rules, effective, file_text, found_for}
-use Rattle.discovery.specs.Discovery.{graph_walked, most_keys, node_of, registry_node, root_ask}
+use Rattle.discovery.specs.Discovery.{graph_walked, most_keys, node_of, registry_node, root_request}
 use Rattle.discovery.specs.Discovery.{root_key, root_node}
 use Rattle.discovery.specs.DiscoveryLaws.{HoldsOnNeeds, IsDiscovery, IsFromRegistry}
 use Rattle.bz_base.specs.Keys.{same_key}
 use Rattle.module_file.specs.ModuleFiles.{declared_in}
-use Rattle.discovery.specs.Stopping.{Files}
-use Rattle.bz_walks.specs.Walks.{Walked, levels, walked_with, with_asks}
-use Rattle.discovery.specs.declared.asks.Ask.{Ask}
+use Rattle.discovery.specs.Failures.{Files}
+use Rattle.bz_walks.specs.Walks.{Walked, levels, walked_with, with_requests}
+use Rattle.discovery.specs.declared.requests.Request.{Request}
 
 same_key-congr : (one other third : Key)
     → same_key one other ≡ true
@@ -61,33 +61,33 @@ same_key-same one other h =
     ≡ other.version = (bytes_eq-Decides one.version other.version).0 parts.1 in
     λ i. record { name = names i; version = versions i }
 
-asks_alike : IsEquivalence discovery_rules.same
-asks_alike = record {
-  refl = λ ask. same_key-itself ask.key;
+requests_alike : IsEquivalence discovery_rules.same
+requests_alike = record {
+  refl = λ request. same_key-itself request.key;
   symm = λ one other. λ i. nat_list_eq_equiv.symm one.key.name other.key.name i
       && nat_list_eq_equiv.symm one.key.version other.key.version i;
   congr = λ one other third. same_key-congr one.key other.key third.key;
 }
 
--- what stands where an ask leads
-record IsReadFor (look : Files) (root : Key) (ask : Ask) (node : GraphNode) : Type 0 where
-  pub key_is : node.key ≡ ask.key
+-- what stands where a request leads
+record IsReadFor (look : Files) (root : Key) (request : Request) (node : GraphNode) : Type 0 where
+  pub key_is : node.key ≡ request.key
   pub from : IsFromRegistry look root node
 
-node_of-read : (look : Files) (root : Key) (ask : Ask) (node : GraphNode)
-    → node_of root ask (found_for look ask.key) ≡ Ok node
-    → IsReadFor look root ask node
-node_of-read look root ask node = by (found_for look ask.key) refl
+node_of-read : (look : Files) (root : Key) (request : Request) (node : GraphNode)
+    → node_of root request (found_for look request.key) ≡ Ok node
+    → IsReadFor look root request node
+node_of-read look root request node = by (found_for look request.key) refl
   where
     declared_by : (bytes : List ℕ)
-        → found_for look ask.key ≡ Bytes bytes
+        → found_for look request.key ≡ Bytes bytes
         → (r : Result ModuleDecl Refusal)
-        → declared_as ask.key (declared_in bytes) ≡ r
-        → registry_node root ask r ≡ Ok node
-        → IsReadFor look root ask node
+        → declared_as request.key (declared_in bytes) ≡ r
+        → registry_node root request r ≡ Ok node
+        → IsReadFor look root request node
     declared_by bytes found (Err refusal) declared e = absurd (cc e)
     declared_by bytes found (Ok declaration) declared e =
-        subst (IsReadFor look root ask) (cc e)
+        subst (IsReadFor look root request) (cc e)
         (record {
           key_is = refl;
           from = record {
@@ -101,17 +101,17 @@ node_of-read look root ask node = by (found_for look ask.key) refl
         })
 
     by : (found : Found)
-        → found_for look ask.key ≡ found
-        → node_of root ask found ≡ Ok node
-        → IsReadFor look root ask node
+        → found_for look request.key ≡ found
+        → node_of root request found ≡ Ok node
+        → IsReadFor look root request node
     by (Bytes bytes) found e = declared_by bytes found
-        (declared_as ask.key (declared_in bytes)) refl e
+        (declared_as request.key (declared_in bytes)) refl e
     by Large found e = absurd (cc e)
     by (Listing names) found e = absurd (cc e)
     by Absent found e = absurd (cc e)
 
-abbrev KeyIs : Ask → GraphNode → Type 0
-KeyIs ask node = node.key ≡ ask.key
+abbrev KeyIs : Request → GraphNode → Type 0
+KeyIs request node = node.key ≡ request.key
 
 -- its needs are the keys that its dependencies mean
 abbrev HasMeantNeeds : Key → GraphNode → Type 0
@@ -125,67 +125,68 @@ HasMeantNeeds-read look root node from = subst (HasMeantNeeds root) (sym from.ma
 HasEachNeed-meant : (root : Key) (node : GraphNode) → HasMeantNeeds root node → HasEachNeed node
 HasEachNeed-meant root node meant = ap length meant ∙ length-map node.decl.deps (effective root)
 
--- different asks lead to different keys
-differ_from : (ask : Ask) (node : GraphNode)
-    → KeyIs ask node
-    → (asks : List Ask) (nodes : List GraphNode)
-    → AllZip KeyIs asks nodes
-    → AllByRecursion (λ other. same_key ask.key other.key ≡ false) asks
+-- different requests lead to different keys
+differ_from : (request : Request) (node : GraphNode)
+    → KeyIs request node
+    → (requests : List Request) (nodes : List GraphNode)
+    → AllZip KeyIs requests nodes
+    → AllByRecursion (λ other. same_key request.key other.key ≡ false) requests
     → AllByRecursion (λ other. node.key ≢ other.key) nodes
-differ_from ask node key [] [] keys apart = tt
-differ_from ask node key [] (other ∷ nodes) keys apart = absurd keys
-differ_from ask node key (other ∷ asks) [] keys apart = absurd keys
-differ_from ask node key (other ∷ asks) (further ∷ nodes) keys apart = (
-  λ e. absurd (cc (sym (same_key-itself ask.key) ∙ ap (same_key ask.key) (sym key ∙ e ∙ keys.0) ∙
+differ_from request node key [] [] keys apart = tt
+differ_from request node key [] (other ∷ nodes) keys apart = absurd keys
+differ_from request node key (other ∷ requests) [] keys apart = absurd keys
+differ_from request node key (other ∷ requests) (further ∷ nodes) keys apart = (
+  λ e. absurd (cc (sym (same_key-itself request.key) ∙ ap (same_key request.key) (sym key ∙ e ∙
+      keys.0) ∙
       apart.0)),
-  differ_from ask node key asks nodes keys.1 apart.1,
+  differ_from request node key requests nodes keys.1 apart.1,
 )
 
-keys_differ : (asks : List Ask) (nodes : List GraphNode)
-    → AllZip KeyIs asks nodes
-    → IsDistinct discovery_rules.same asks
+keys_differ : (requests : List Request) (nodes : List GraphNode)
+    → AllZip KeyIs requests nodes
+    → IsDistinct discovery_rules.same requests
     → AllPairs (λ one other. one.key ≢ other.key) nodes
 unfolding IsDistinct
 keys_differ [] [] keys distinct = λ i j d before within. absurd (omega (arith, within))
 keys_differ [] (node ∷ nodes) keys distinct = absurd keys
-keys_differ (ask ∷ asks) [] keys distinct = absurd keys
-keys_differ (ask ∷ asks) (node ∷ nodes) keys distinct =
+keys_differ (request ∷ requests) [] keys distinct = absurd keys
+keys_differ (request ∷ requests) (node ∷ nodes) keys distinct =
     AllPairs-cons (λ one other. one.key ≢ other.key) node nodes
     (All-from_recursion (λ other. node.key ≢ other.key) nodes
-    (differ_from ask node keys.0 asks nodes keys.1 distinct.0))
-    (keys_differ asks nodes keys.1 distinct.1)
+    (differ_from request node keys.0 requests nodes keys.1 distinct.0))
+    (keys_differ requests nodes keys.1 distinct.1)
 
--- a key for which an ask stands is that of a node
-keys_found : (key : Key) (asks : List Ask) (nodes : List GraphNode)
-    → AllZip KeyIs asks nodes
-    → list_any (λ other. same_key key other.key) asks
+-- a key for which a request stands is that of a node
+keys_found : (key : Key) (requests : List Request) (nodes : List GraphNode)
+    → AllZip KeyIs requests nodes
+    → list_any (λ other. same_key key other.key) requests
     ≡ list_any (λ node. same_key key node.key) nodes
 keys_found key [] [] keys = refl
 keys_found key [] (node ∷ nodes) keys = absurd keys
-keys_found key (ask ∷ asks) [] keys = absurd keys
-keys_found key (ask ∷ asks) (node ∷ nodes) keys = λ i. same_key key (sym keys.0 i)
-    || keys_found key asks nodes keys.1 i
+keys_found key (request ∷ requests) [] keys = absurd keys
+keys_found key (request ∷ requests) (node ∷ nodes) keys = λ i. same_key key (sym keys.0 i)
+    || keys_found key requests nodes keys.1 i
 
-needed_there : (key : Key) (asks : List Ask) (nodes : List GraphNode)
-    → AllZip KeyIs asks nodes
-    → list_any (λ other. same_key key other.key) asks ≡ true
+needed_there : (key : Key) (requests : List Request) (nodes : List GraphNode)
+    → AllZip KeyIs requests nodes
+    → list_any (λ other. same_key key other.key) requests ≡ true
     → Any (λ node. node.key ≡ key) nodes
-needed_there key asks nodes keys stands =
+needed_there key requests nodes keys stands =
     let found : Any (λ node. same_key key node.key ≡ true) nodes = Any-from_list_any
-    (λ node. same_key key node.key) nodes (sym (keys_found key asks nodes keys) ∙ stands) in
+    (λ node. same_key key node.key) nodes (sym (keys_found key requests nodes keys) ∙ stands) in
     (found.0, found.1, found.2, found.3, sym (same_key-same key found.1.key found.4))
 
-module _ (root : Key) (asks : List Ask) (nodes : List GraphNode)
-    (keys : AllZip KeyIs asks nodes) where
+module _ (root : Key) (requests : List Request) (nodes : List GraphNode)
+    (keys : AllZip KeyIs requests nodes) where
   deps_there : (file : List ℕ) (deps : List Dep)
-      → AllByRecursion (Stands discovery_rules asks) (map (ask_of root file) deps)
+      → AllByRecursion (Stands discovery_rules requests) (map (request_of root file) deps)
       → AllByRecursion (λ need. Any (λ node. node.key ≡ need) nodes) (map (effective root) deps)
   deps_there file [] stand = tt
   deps_there file (dep ∷ deps) stand =
-      (needed_there (effective root dep) asks nodes keys stand.0, deps_there file deps stand.1)
+      (needed_there (effective root dep) requests nodes keys stand.0, deps_there file deps stand.1)
 
   needs_there : (node : GraphNode)
-      → AllByRecursion (Stands discovery_rules asks) (asks_of root node)
+      → AllByRecursion (Stands discovery_rules requests) (requests_of root node)
       → HasMeantNeeds root node
       → HasItsNeeds nodes node
   needs_there node stand meant =
@@ -193,38 +194,39 @@ module _ (root : Key) (asks : List Ask) (nodes : List GraphNode)
       (subst (AllByRecursion (λ need. Any (λ needed. needed.key ≡ need) nodes)) (sym meant)
       (deps_there (file_text node) node.decl.deps stand))
 
--- a test of keys as one of asks
-abbrev of_key : (Key → Bool) → Ask → Bool
-of_key holds ask = holds ask.key
+-- a test of keys as one of requests
+abbrev of_key : (Key → Bool) → Request → Bool
+of_key holds request = holds request.key
 
 deps_pass : (holds : Key → Bool) (root : Key) (file : List ℕ) (deps : List Dep)
     → AllByRecursion (λ need. holds need ≡ true) (map (effective root) deps)
-    → AllPassing (of_key holds) (map (ask_of root file) deps)
+    → AllPassing (of_key holds) (map (request_of root file) deps)
 deps_pass holds root file [] all = tt
 deps_pass holds root file (dep ∷ deps) all = (all.0, deps_pass holds root file deps all.1)
 
--- what is closed on needs passes from asks to asks
+-- what is closed on needs passes from requests to requests
 abbrev IsClosedAt : (Key → Bool) → GraphNode → Type 0
 IsClosedAt holds node = holds node.key ≡ true → All (λ need. holds need ≡ true) node.needs
 
-PassesOn-closed : (look : Files) (root : Key) (holds : Key → Bool) (ask : Ask) (node : GraphNode)
-    → KeyIs ask node
+PassesOn-closed : (look : Files) (root : Key) (holds : Key → Bool) (request : Request)
+    (node : GraphNode)
+    → KeyIs request node
     → HasMeantNeeds root node × IsClosedAt holds node
-    → PassesOn (discovery look root) (of_key holds) ask node
-PassesOn-closed look root holds ask node key closed holding =
+    → PassesOn (discovery look root) (of_key holds) request node
+PassesOn-closed look root holds request node key closed holding =
     deps_pass holds root (file_text node) node.decl.deps
     (subst (AllByRecursion (λ need. holds need ≡ true)) closed.0
     (recursion_from_All (λ need. holds need ≡ true) node.needs
     (closed.1 (ap holds key ∙ holding))))
 
-module _ (look : Files) (decl : ModuleDecl) (front : List Ask) (further : List GraphNode)
-    (whole : IsWhole (discovery look (root_key decl)) HasRoom (root_ask (root_key decl))
+module _ (look : Files) (decl : ModuleDecl) (front : List Request) (further : List GraphNode)
+    (whole : IsWhole (discovery look (root_key decl)) HasRoom (root_request (root_key decl))
     (root_node decl) front further) where
   abbrev root : Key
   root = root_key decl
 
-  abbrev asks : List Ask
-  asks = root_ask root ∷ front
+  abbrev requests : List Request
+  requests = root_request root ∷ front
 
   abbrev nodes : List GraphNode
   nodes = root_node decl ∷ further
@@ -233,16 +235,16 @@ module _ (look : Files) (decl : ModuleDecl) (front : List Ask) (further : List G
   reads = AllZip-weaker (IsReadBy (discovery look root)) (IsReadFor look root)
       (node_of-read look root) front further whole.read
 
-  keys : AllZip KeyIs asks nodes
+  keys : AllZip KeyIs requests nodes
   keys = (
     refl,
-    AllZip-weaker (IsReadFor look root) KeyIs (λ ask node read. read.key_is) front
+    AllZip-weaker (IsReadFor look root) KeyIs (λ request node read. read.key_is) front
         further reads,
   )
 
   from : AllByRecursion (IsFromRegistry look root) further
   from = AllByRecursion-right (IsReadFor look root) (IsFromRegistry look root)
-      (λ ask node read. read.from) front further reads
+      (λ request node read. read.from) front further reads
 
   meant : AllByRecursion (HasMeantNeeds root) nodes
   meant = (
@@ -258,24 +260,25 @@ module _ (look : Files) (decl : ModuleDecl) (front : List Ask) (further : List G
   least holds begins closed =
       let closed_each : AllByRecursion (IsClosedAt holds) nodes = recursion_from_All
       (IsClosedAt holds) nodes closed in
-      let passes : AllZip (PassesOn (discovery look root) (of_key holds)) asks nodes = AllZip-beside
+      let passes : AllZip (PassesOn (discovery look root) (of_key holds)) requests nodes =
+      AllZip-beside
       KeyIs (λ node. HasMeantNeeds root node × IsClosedAt holds node)
       (PassesOn (discovery look root) (of_key holds))
-      (PassesOn-closed look root holds) asks nodes keys
+      (PassesOn-closed look root holds) requests nodes keys
       (AllByRecursion-both (HasMeantNeeds root) (IsClosedAt holds)
       (λ node. HasMeantNeeds root node × IsClosedAt holds node)
       (λ node m c. (m, c)) nodes meant closed_each) in
       All-from_recursion (λ node. holds node.key ≡ true) nodes
-      (held asks nodes keys (whole.least (of_key holds) begins passes))
+      (held requests nodes keys (whole.least (of_key holds) begins passes))
     where
-      held : (some : List Ask) (those : List GraphNode)
+      held : (some : List Request) (those : List GraphNode)
           → AllZip KeyIs some those
           → AllPassing (of_key holds) some
           → AllByRecursion (λ node. holds node.key ≡ true) those
       held [] [] same all = tt
       held [] (node ∷ those) same all = absurd same
-      held (ask ∷ some) [] same all = absurd same
-      held (ask ∷ some) (node ∷ those) same all =
+      held (request ∷ some) [] same all = absurd same
+      held (request ∷ some) (node ∷ those) same all =
           (ap holds same.0 ∙ all.0, held some those same.1 all.1)
 
   whole-discovery : IsDiscovery look decl (record { nodes = nodes })
@@ -287,22 +290,22 @@ module _ (look : Files) (decl : ModuleDecl) (front : List Ask) (further : List G
             (AllByRecursion-weaker (IsFromRegistry look root) (λ other. other.root ≡ false)
             (λ node read. ap (λ other. other.root) read.made) further from),
       );
-      keys_differ = keys_differ asks nodes keys whole.distinct;
+      keys_differ = keys_differ requests nodes keys whole.distinct;
       each_need = All-from_recursion HasEachNeed nodes
           (AllByRecursion-weaker (HasMeantNeeds root) HasEachNeed
           (HasEachNeed-meant root) nodes meant);
       needs_there = All-from_recursion (HasItsNeeds nodes) nodes
           (AllByRecursion-both
-          (λ node. AllByRecursion (Stands discovery_rules asks) (asks_of root node))
+          (λ node. AllByRecursion (Stands discovery_rules requests) (requests_of root node))
           (HasMeantNeeds root) (HasItsNeeds nodes)
-          (needs_there root asks nodes keys) nodes whole.stand meant);
+          (needs_there root requests nodes keys) nodes whole.stand meant);
     };
     declared = (refl, All-from_recursion (IsFromRegistry look root) further from);
     least = least;
   }
 
-ended-discovery : (look : Files) (decl : ModuleDecl) (final : Walked Ask GraphNode)
-    → IsEnded (discovery look (root_key decl)) HasRoom (root_ask (root_key decl))
+ended-discovery : (look : Files) (decl : ModuleDecl) (final : Walked Request GraphNode)
+    → IsEnded (discovery look (root_key decl)) HasRoom (root_request (root_key decl))
     (root_node decl) final
     → IsDiscovery look decl (record { nodes = final.nodes })
 ended-discovery look decl final ended =
@@ -314,40 +317,45 @@ pub discovered-least : (look : Files) (decl : ModuleDecl) (graph : Graph)
     → IsDiscovery look decl graph
 unfolding discovered
 discovered-least look decl graph e =
-    by (with_asks discovery_rules (Ok (root_ask root ∷ [])) (asks_of root (root_node decl))) refl e
+    by (with_requests discovery_rules (Ok (root_request root ∷ []))
+    (requests_of root (root_node decl))) refl e
   where
     root : Key
     root = root_key decl
 
-    ended : (known : List Ask)
-        → with_asks discovery_rules (Ok (root_ask root ∷ [])) (asks_of root (root_node decl))
+    ended : (known : List Request)
+        → with_requests discovery_rules (Ok (root_request root ∷ []))
+        (requests_of root (root_node decl))
         ≡ Ok known
-        → (r : Result (Walked Ask GraphNode) Refusal)
+        → (r : Result (Walked Request GraphNode) Refusal)
         → levels (discovery look root) most_keys (Ok (walked_as known (root_node decl ∷ []))) ≡ r
         → graph_walked r ≡ Ok graph
         → IsDiscovery look decl graph
     ended known asked (Err refusal) reached e = absurd (cc e)
     ended known asked (Ok final) reached e =
-        let room : HasRoom known = with_asks-room (asks_of root (root_node decl))
-        (root_ask root ∷ []) known (omega arith) asked in
-        let some : 1 ≤ length known = with_asks-longer (asks_of root (root_node decl))
-        (root_ask root ∷ []) known asked in
-        let first : IsEnded (discovery look root) HasRoom (root_ask root) (root_node decl) final =
-        walk_on-ends (discovery look root) asks_alike HasRoom most_keys (λ l now. now)
-        (λ l more ask node now read added. with_asks-room (asks_of root node) l more now added)
-        (root_ask root) (root_node decl) final
+        let room : HasRoom known = with_requests-room (requests_of root (root_node decl))
+        (root_request root ∷ []) known (omega arith) asked in
+        let some : 1 ≤ length known = with_requests-longer (requests_of root (root_node decl))
+        (root_request root ∷ []) known asked in
+        let first : IsEnded (discovery look root) HasRoom (root_request root)
+        (root_node decl) final =
+        walk_on-ends (discovery look root) requests_alike HasRoom most_keys (λ l now. now)
+        (λ l more request node now read added. with_requests-room
+        (requests_of root node) l more now added)
+        (root_request root) (root_node decl) final
         (most_keys - 1) known [] (omega arith) room
-        (IsWalked-first (discovery look root) asks_alike (root_ask root)
+        (IsWalked-first (discovery look root) requests_alike (root_request root)
         (root_node decl) known asked)
         (levels-nodes look root known (root_node decl ∷ []) room some ∙ reached) in
         subst (IsDiscovery look decl) (cc e) (ended-discovery look decl final first)
 
-    by : (r : Result (List Ask) Refusal)
-        → with_asks discovery_rules (Ok (root_ask root ∷ [])) (asks_of root (root_node decl)) ≡ r
+    by : (r : Result (List Request) Refusal)
+        → with_requests discovery_rules (Ok (root_request root ∷ []))
+        (requests_of root (root_node decl)) ≡ r
         → graph_walked (levels (discovery look root) most_keys (walked_with [] (root_node decl) r))
         ≡ Ok graph
         → IsDiscovery look decl graph
     by (Err refusal) asked e = absurd
-        (cc (sym (walked_with-barred look root (root_node decl) (Err refusal) refusal refl) ∙ e))
+        (cc (sym (walked_with-limited look root (root_node decl) (Err refusal) refusal refl) ∙ e))
     by (Ok known) asked e = ended known asked
         (levels (discovery look root) most_keys (Ok (walked_as known (root_node decl ∷ [])))) refl e

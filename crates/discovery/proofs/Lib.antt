@@ -1,4 +1,4 @@
 pub mod Discoveries
 pub mod DiscoveryLaws
 pub mod KeySets
-pub mod Stopping
+pub mod Readings

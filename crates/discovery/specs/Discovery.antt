@@ -17,9 +17,9 @@ use Rattle.bz_tree.specs.declared.tree.Found.{Found}
 use Rattle.bz_tree.specs.declared.tree.Found.TheVariants.{Bytes, Large, Listing, Absent}
 use Rattle.bz_base.specs.Keys.{key_text, node_text, same_key}
 use Rattle.module_file.specs.ModuleFiles.{declared_in, form_refusal}
-use Rattle.discovery.specs.Stopping.{Files}
+use Rattle.discovery.specs.Failures.{Files}
 use Rattle.bz_walks.specs.Walks.{Rules, Walk, Walked, levels, with_node}
-use Rattle.discovery.specs.declared.asks.Ask.{Ask}
+use Rattle.discovery.specs.declared.requests.Request.{Request}
 
 -- the most keys of a graph, the root's among them
 abbrev pub most_keys : ℕ
@@ -30,9 +30,15 @@ abbrev pub too_many_refusal : Refusal
 too_many_refusal = refusal_of TooMany
 
 -- no file of the module that is asked for, at the line that asks
-abbrev pub no_module_refusal : Ask → Refusal
-no_module_refusal ask = record
-    { code = NoModule; file = ask.file; line = ask.line; detail = key_text ask.key; hint = 0 }
+abbrev pub no_module_refusal : Request → Refusal
+no_module_refusal request = record {
+  code = NoModule;
+  file = request.file;
+  line = request.line;
+  detail = key_text request.key;
+  hint
+      = 0;
+}
 
 -- a dependency on the root's own name means the root, if it has one
 abbrev pub means_root : Key → Dep → Bool
@@ -47,19 +53,19 @@ effective root dep = if means_root root dep then root
 abbrev pub file_text : GraphNode → List ℕ
 file_text node = node_text node ++ codes "/MODULE.bazel"
 
-abbrev pub ask_of : Key → List ℕ → Dep → Ask
-ask_of root file dep = record { key = effective root dep; file = file; line = dep.line }
+abbrev pub request_of : Key → List ℕ → Dep → Request
+request_of root file dep = record { key = effective root dep; file = file; line = dep.line }
 
--- what a node asks for, one ask per dependency, in order of declaration
-abbrev pub asks_of : Key → GraphNode → List Ask
-asks_of root node = map (ask_of root (file_text node)) node.decl.deps
+-- what a node asks for, one request per dependency, in order of declaration
+abbrev pub requests_of : Key → GraphNode → List Request
+requests_of root node = map (request_of root (file_text node)) node.decl.deps
 
--- asks for one key are one; no key may stand behind the most of them
-abbrev pub bar_of : List Ask → Ask → Option Refusal
-bar_of known ask = if nat_le most_keys (length known) then Some too_many_refusal else None
+-- requests for one key are one; no key may stand behind the most of them
+abbrev pub limit_of : List Request → Request → Option Refusal
+limit_of known request = if nat_le most_keys (length known) then Some too_many_refusal else None
 
-abbrev pub discovery_rules : Rules Ask Refusal
-discovery_rules = record { same = λ one other. same_key one.key other.key; bar = bar_of }
+abbrev pub discovery_rules : Rules Request Refusal
+discovery_rules = record { same = λ one other. same_key one.key other.key; limit = limit_of }
 
 -- where the default registry has a module's file
 abbrev pub registry_text : Key → List ℕ
@@ -87,11 +93,11 @@ declared_as key (Ok decl) = if declares key decl then Ok decl else Err form_refu
 declared_as key (Err refusal) = Err refusal
 
 -- what the registry's file declares; a directory in its place counts as absent
-abbrev pub registry_decl : Ask → Found → Result ModuleDecl Refusal
-registry_decl ask Absent = Err (no_module_refusal ask)
-registry_decl ask (Listing names) = Err (no_module_refusal ask)
-registry_decl ask Large = Err form_refusal
-registry_decl ask (Bytes bytes) = declared_as ask.key (declared_in bytes)
+abbrev pub registry_decl : Request → Found → Result ModuleDecl Refusal
+registry_decl request Absent = Err (no_module_refusal request)
+registry_decl request (Listing names) = Err (no_module_refusal request)
+registry_decl request Large = Err form_refusal
+registry_decl request (Bytes bytes) = declared_as request.key (declared_in bytes)
 
 abbrev pub node_with : Key → Key → Bool → List ℕ → ModuleDecl → GraphNode
 node_with root key is_root registry decl =
@@ -105,22 +111,22 @@ node_with root key is_root registry decl =
       registry = registry;
     }
 
-abbrev pub registry_node : Key → Ask → Result ModuleDecl Refusal → Result GraphNode Refusal
-registry_node root ask (Ok decl) = Ok
-    (node_with root ask.key false (codes "file://%workspace%/registry") decl)
-registry_node root ask (Err refusal) = Err refusal
+abbrev pub registry_node : Key → Request → Result ModuleDecl Refusal → Result GraphNode Refusal
+registry_node root request (Ok decl) = Ok
+    (node_with root request.key false (codes "file://%workspace%/registry") decl)
+registry_node root request (Err refusal) = Err refusal
 
--- the module for which an ask asks
-abbrev pub node_of : Key → Ask → Found → Result GraphNode Refusal
-node_of root ask found = registry_node root ask (registry_decl ask found)
+-- the module for which a request asks
+abbrev pub node_of : Key → Request → Found → Result GraphNode Refusal
+node_of root request found = registry_node root request (registry_decl request found)
 
-abbrev pub discovery : Files → Key → Walk Ask GraphNode Refusal
+abbrev pub discovery : Files → Key → Walk Request GraphNode Refusal
 discovery look root =
     record {
       rules = discovery_rules;
-      read = λ ask. node_of root ask
-          (found_for look ask.key);
-      asks = asks_of root;
+      read = λ request. node_of root request
+          (found_for look request.key);
+      requests = requests_of root;
     }
 
 abbrev pub root_key : ModuleDecl → Key
@@ -129,14 +135,14 @@ root_key decl = record { name = decl.name; version = decl.version }
 abbrev pub root_node : ModuleDecl → GraphNode
 root_node decl = node_with (root_key decl) (root_key decl) true [] decl
 
-abbrev pub root_ask : Key → Ask
-root_ask root = record { key = root; file = []; line = 0 }
+abbrev pub root_request : Key → Request
+root_request root = record { key = root; file = []; line = 0 }
 
 -- level 0
-abbrev pub root_alone : Key → Walked Ask GraphNode
-root_alone root = record { known = root_ask root ∷ []; nodes = [] }
+abbrev pub root_alone : Key → Walked Request GraphNode
+root_alone root = record { known = root_request root ∷ []; nodes = [] }
 
-abbrev pub graph_walked : Result (Walked Ask GraphNode) Refusal → Result Graph Refusal
+abbrev pub graph_walked : Result (Walked Request GraphNode) Refusal → Result Graph Refusal
 graph_walked (Ok walked) = Ok (record { nodes = walked.nodes })
 graph_walked (Err refusal) = Err refusal
 

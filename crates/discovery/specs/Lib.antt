@@ -1,4 +1,4 @@
 pub mod Discovery
 pub mod DiscoveryLaws
 pub mod KeySets
-pub mod Stopping
+pub mod Failures

@@ -1,23 +1,25 @@
 //! Discovery: from the root on each module that is asked for is read, breadth first, and its
 //! dependencies ask for further ones. What comes in is the root's declaration and the tree; what
-//! goes out is the graph of all that is asked for. Kept are the asks that are known and the nodes
-//! to which the first of them led; the next ask is that behind the last node.
+//! goes out is the graph of all that is asked for. Kept are the requests that are known and the
+//! nodes
+//! to which the first of them led; the next request is that behind the last node.
 ghost use Rattle.std.specs.Prelude.{◌≡◌, ◌≤◌, ◌<◌, ◌-◌, [], ◌∷◌, IfOk, Ok, false, true, length};
 ghost use Rattle.std.specs.Prelude.{map};
 ghost use Rattle.bz_text.specs.Answers.{Gives};
-ghost use Rattle.discovery.specs.Discovery.{ask_of, asks_of, declared_as, declares, discovered};
+ghost use Rattle.discovery.specs.Discovery.{request_of, requests_of, declared_as, declares};
+ghost use Rattle.discovery.specs.Discovery.{discovered};
 ghost use Rattle.discovery.specs.Discovery.{discovery, discovery_rules, effective, file_text};
 ghost use Rattle.discovery.specs.Discovery.{found_for, graph_walked, means_root, most_keys};
 ghost use Rattle.discovery.specs.Discovery.{no_module_refusal, node_of, node_with, registry_decl};
-ghost use Rattle.discovery.specs.Discovery.{registry_text, root_alone, root_ask, root_key};
+ghost use Rattle.discovery.specs.Discovery.{registry_text, root_alone, root_request, root_key};
 ghost use Rattle.module_file.specs.ModuleFiles.{declared_in};
-ghost use Rattle.discovery.specs.Stopping.{GivesOver};
-ghost use Rattle.bz_walks.specs.Walks.{levels, with_asks, with_node};
+ghost use Rattle.discovery.specs.Failures.{ReadsOver, tree_run};
+ghost use Rattle.bz_walks.specs.Walks.{levels, with_requests, with_node};
 
-use crate::asks::Ask;
-use crate::known::Known;
+use crate::failures::{Failure, failure_of};
 use crate::reading::read_by;
-use crate::stops::{Stop, stop_of};
+use crate::requests::Request;
+use crate::worklist::Worklist;
 use bz_base::{Code, Dep, Graph, GraphNode, Key, May, Mem, Miss, ModuleDecl, Refusal, Seq, Txt};
 use bz_tree::{Found, Tree};
 use module_file::declaring::{form, read_module};
@@ -26,11 +28,9 @@ use std::alloc::Global;
 /// The module versions that the root needs, directly or through others, over the files of the
 /// default registry.
 #[tactic(auto, unfolding(crate::specs::Discovery::discovered))]
-pub fn discover<T: Tree>(alloc: Global, root: ModuleDecl, tree: &mut T) -> Result<Graph, Stop>
-    ensures graph { GivesOver (λ look. discovered look root) (T.files tree.old) (T.faults tree.old)
-        (T.faults tree.new) (T.failed tree.new) result }
-    ensures files_kept { T.files tree.new ≡ T.files tree.old }
-    ensures count_never_falls { T.faults tree.old ≤ T.faults tree.new }
+pub fn discover<T: Tree>(alloc: Global, root: ModuleDecl, tree: &mut T) -> Result<Graph, Failure>
+    ensures { ReadsOver (λ look. discovered look root)
+        (tree_run T.files T.faults T.failed tree.old tree.new) result }
 {
     let key = key_of_root(alloc, &root)?;
     let node = node_of_root(alloc, &key, root)?;
@@ -60,91 +60,84 @@ fn walk_from<T: Tree>(
     tree: &mut T,
     root: &Key,
     node: GraphNode,
-) -> Result<Graph, Stop>
-    ensures graph { GivesOver (λ look. graph_walked (levels (discovery look root.now) most_keys (with_node
-        (discovery look root.now) (root_alone root.now) (Ok node)))) (T.files tree.old)
-        (T.faults tree.old) (T.faults tree.new) (T.failed tree.new) result }
-    ensures files_kept { T.files tree.new ≡ T.files tree.old }
-    ensures count_never_falls { T.faults tree.old ≤ T.faults tree.new }
+) -> Result<Graph, Failure>
+    ensures { ReadsOver (λ look. graph_walked (levels (discovery look root.now) most_keys (with_node (discovery look root.now) (root_alone root.now) (Ok node))))
+        (tree_run T.files T.faults T.failed tree.old tree.new) result }
 {
-    let known = match first_asks(alloc, root, &node) {
+    let known = match first_requests(alloc, root, &node) {
         Ok(known) => known,
-        Err(miss) => return Err(stop_of(miss)),
+        Err(miss) => return Err(failure_of(miss)),
     };
     let mut nodes = Seq::new(alloc);
     match nodes.push(node) {
         Ok(()) => walk(alloc, tree, root, known, nodes),
-        Err(_) => Err(Stop::OutOfMemory),
+        Err(_) => Err(Failure::OutOfMemory),
     }
 }
 
 /// The root and what it asks for.
-fn first_asks(alloc: Global, root: &Key, node: &GraphNode) -> May<Known, Refusal>
-    ensures asks { Gives (with_asks discovery_rules (Ok (root_ask root.now ∷ [])) (asks_of root.now node.now))
+fn first_requests(alloc: Global, root: &Key, node: &GraphNode) -> May<Worklist, Refusal>
+    ensures requests { Gives (with_requests discovery_rules (Ok (root_request root.now ∷ [])) (requests_of root.now node.now))
         result }
     ensures root_known { IfOk result (λ known. 1 ≤ length known) }
     ensures room { IfOk result (λ known. length known ≤ most_keys) }
 {
-    let ask = ask_for_root(alloc, root)?;
-    let known = Known::of(alloc, ask)?;
+    let request = request_for_root(alloc, root)?;
+    let known = Worklist::of(alloc, request)?;
     with_each(alloc, root, known, node)
 }
 
-/// Reads ask after ask until all that are known are read.
+/// Reads request after request until all that are known are read.
 fn walk<T: Tree>(
     alloc: Global,
     tree: &mut T,
     root: &Key,
-    known: Known,
+    known: Worklist,
     nodes: Seq<GraphNode>,
-) -> Result<Graph, Stop>
+) -> Result<Graph, Failure>
     requires read { length nodes ≤ length known }
     requires room { length known ≤ most_keys }
-    ensures graph { GivesOver (λ look. graph_walked (levels (discovery look root.now) most_keys (Ok (record {
-      known = known;
-      nodes = nodes;
-    })))) (T.files tree.old) (T.faults tree.old)
-        (T.faults tree.new) (T.failed tree.new) result }
-    ensures files_kept { T.files tree.new ≡ T.files tree.old }
-    ensures count_never_falls { T.faults tree.old ≤ T.faults tree.new }
+    ensures { ReadsOver (λ look. graph_walked (levels (discovery look root.now) most_keys (Ok (record { known = known; nodes = nodes }))))
+        (tree_run T.files T.faults T.failed tree.old tree.new) result }
 {
     let mut known = known;
     let mut nodes = nodes;
-    'asks: while let Some(ask) = known.at(nodes.items().len()) {
-        let node = match visit(alloc, tree, root, ask) {
+    'requests: while let Some(request) = known.at(nodes.items().len()) {
+        let node = match visit(alloc, tree, root, request) {
             Ok(node) => node,
-            Err(stop) => return Err(stop),
+            Err(failure) => return Err(failure),
         };
         known = match with_each(alloc, root, known, &node) {
             Ok(known) => known,
-            Err(miss) => return Err(stop_of(miss)),
+            Err(miss) => return Err(failure_of(miss)),
         };
         match nodes.push(node) {
             Ok(()) => {}
-            Err(_) => return Err(Stop::OutOfMemory),
+            Err(_) => return Err(Failure::OutOfMemory),
         }
     }
     Ok(Graph { nodes })
 }
 
-/// The module for which an ask asks.
-fn visit<T: Tree>(alloc: Global, tree: &mut T, root: &Key, ask: &Ask) -> Result<GraphNode, Stop>
-    ensures node { GivesOver (λ look. node_of root.now ask.now (found_for look ask.now.key)) (T.files tree.old)
-        (T.faults tree.old) (T.faults tree.new) (T.failed tree.new) result }
-    ensures files_kept { T.files tree.new ≡ T.files tree.old }
-    ensures count_never_falls { T.faults tree.old ≤ T.faults tree.new }
+/// The module for which a request asks.
+fn visit<T: Tree>(
+    alloc: Global,
+    tree: &mut T,
+    root: &Key,
+    request: &Request,
+) -> Result<GraphNode, Failure>
+    ensures { ReadsOver (λ look. node_of root.now request.now (found_for look request.now.key))
+        (tree_run T.files T.faults T.failed tree.old tree.new) result }
 {
-    let found = read_file(alloc, tree, &ask.key)?;
-    Ok(read_node(alloc, root, ask, &found)?)
+    let found = read_file(alloc, tree, &request.key)?;
+    Ok(read_node(alloc, root, request, &found)?)
 }
 
 /// What stands where the default registry has a module's file.
 #[tactic(auto, unfolding(crate::specs::Discovery::found_for))]
-fn read_file<T: Tree>(alloc: Global, tree: &mut T, key: &Key) -> Result<Found, Stop>
-    ensures found { GivesOver (λ look. Ok (found_for look key.now)) (T.files tree.old) (T.faults tree.old)
-        (T.faults tree.new) (T.failed tree.new) result }
-    ensures files_kept { T.files tree.new ≡ T.files tree.old }
-    ensures count_never_falls { T.faults tree.old ≤ T.faults tree.new }
+fn read_file<T: Tree>(alloc: Global, tree: &mut T, key: &Key) -> Result<Found, Failure>
+    ensures { ReadsOver (λ look. Ok (found_for look key.now))
+        (tree_run T.files T.faults T.failed tree.old tree.new) result }
 {
     let text = registry_file(alloc, key)?;
     read_by(alloc, tree, text.as_str())
@@ -162,26 +155,26 @@ fn registry_file(alloc: Global, key: &Key) -> Mem<Txt>
     Ok(Txt::of_string(text))
 }
 
-fn read_node(alloc: Global, root: &Key, ask: &Ask, found: &Found) -> May<GraphNode, Refusal>
-    ensures { Gives (node_of root.now ask.now found.now) result }
+fn read_node(alloc: Global, root: &Key, request: &Request, found: &Found) -> May<GraphNode, Refusal>
+    ensures { Gives (node_of root.now request.now found.now) result }
 {
-    let decl = match read_decl(alloc, ask, found) {
+    let decl = match read_decl(alloc, request, found) {
         Ok(decl) => decl,
         Err(miss) => return Err(miss),
     };
-    let key = ask.key.copy(alloc)?;
+    let key = request.key.copy(alloc)?;
     let registry = Txt::of(alloc, "file://%workspace%/registry")?;
     Ok(node(alloc, root, key, false, registry, decl)?)
 }
 
-/// What a registry's file declares for an ask.
-fn read_decl(alloc: Global, ask: &Ask, found: &Found) -> May<ModuleDecl, Refusal>
-    ensures { Gives (registry_decl ask.now found.now) result }
+/// What a registry's file declares for a request.
+fn read_decl(alloc: Global, request: &Request, found: &Found) -> May<ModuleDecl, Refusal>
+    ensures { Gives (registry_decl request.now found.now) result }
 {
     match found {
-        Found::Bytes(bytes) => read_declared(alloc, &ask.key, bytes.items()),
+        Found::Bytes(bytes) => read_declared(alloc, &request.key, bytes.items()),
         Found::Large => Err(Miss::Because(form(alloc))),
-        Found::Listing(_) | Found::Absent => Err(Miss::Because(no_module(alloc, ask)?)),
+        Found::Listing(_) | Found::Absent => Err(Miss::Because(no_module(alloc, request)?)),
     }
 }
 
@@ -255,14 +248,14 @@ fn is_on_root(root: &Key, dep: &Dep) -> bool
     !root.name.as_str().is_empty() && dep.name.as_str() == root.name.as_str()
 }
 
-/// The asks that are known and what a module asks for.
-fn with_each(alloc: Global, root: &Key, known: Known, node: &GraphNode) -> May<Known, Refusal>
-    ensures { Gives (with_asks discovery_rules (Ok known) (asks_of root.now node.now)) result }
+/// The requests that are known and what a module asks for.
+fn with_each(alloc: Global, root: &Key, known: Worklist, node: &GraphNode) -> May<Worklist, Refusal>
+    ensures { Gives (with_requests discovery_rules (Ok known) (requests_of root.now node.now)) result }
 {
     let file = file_name(alloc, node)?;
     let mut known = known;
     for dep in node.decl.deps.items() {
-        known = match known.with(alloc, ask(alloc, root, file.as_str(), dep)?) {
+        known = match known.with(alloc, request(alloc, root, file.as_str(), dep)?) {
             Ok(known) => known,
             Err(miss) => return Err(miss),
         };
@@ -270,10 +263,10 @@ fn with_each(alloc: Global, root: &Key, known: Known, node: &GraphNode) -> May<K
     Ok(known)
 }
 
-fn ask(alloc: Global, root: &Key, file: &str, dep: &Dep) -> Mem<Ask>
-    ensures { IfOk result (λ ask. ask ≡ ask_of root.now file.now dep.now) }
+fn request(alloc: Global, root: &Key, file: &str, dep: &Dep) -> Mem<Request>
+    ensures { IfOk result (λ request. request ≡ request_of root.now file.now dep.now) }
 {
-    Ok(Ask {
+    Ok(Request {
         key: effective_key(alloc, root, dep)?,
         file: Txt::of(alloc, file)?,
         line: dep.line,
@@ -281,10 +274,10 @@ fn ask(alloc: Global, root: &Key, file: &str, dep: &Dep) -> Mem<Ask>
 }
 
 /// Level 0.
-fn ask_for_root(alloc: Global, root: &Key) -> Mem<Ask>
-    ensures { IfOk result (λ ask. ask ≡ root_ask root.now) }
+fn request_for_root(alloc: Global, root: &Key) -> Mem<Request>
+    ensures { IfOk result (λ request. request ≡ root_request root.now) }
 {
-    Ok(Ask {
+    Ok(Request {
         key: root.copy(alloc)?,
         file: Txt::of_string(String::new(alloc)),
         line: 0,
@@ -301,12 +294,12 @@ fn file_name(alloc: Global, node: &GraphNode) -> Mem<Txt>
     Ok(Txt::of_string(text))
 }
 
-fn no_module(alloc: Global, ask: &Ask) -> Mem<Refusal>
-    ensures { IfOk result (λ refusal. refusal ≡ no_module_refusal ask.now) }
+fn no_module(alloc: Global, request: &Request) -> Mem<Refusal>
+    ensures { IfOk result (λ refusal. refusal ≡ no_module_refusal request.now) }
 {
     let mut refusal = Refusal::of(alloc, Code::NoModule);
-    refusal.file = ask.file.copy(alloc)?;
-    refusal.line = ask.line;
-    refusal.detail = ask.key.text(alloc)?;
+    refusal.file = request.file.copy(alloc)?;
+    refusal.line = request.line;
+    refusal.detail = request.key.text(alloc)?;
     Ok(refusal)
 }

@@ -3,7 +3,7 @@
 //! In come the root's declaration and the tree of files; out goes a `Graph`, breadth first, the
 //! root first, or a refusal, a failed read with its path, or want of memory.
 //! Read `specs/Discovery.antt` first: which key a dependency means, where its file lies, what it
-//! declares, and the walk of `bz_walks` over these. `specs/Stopping.antt` says what a part gave
+//! declares, and the walk of `bz_walks` over these. `specs/Failures.antt` says what a part gave
 //! over a tree that may tell its files (`GivesOver`).
 //! The code keeps the requests that are known as a list beside a set of their keys; the next one is
 //! that behind the last node.
@@ -14,13 +14,13 @@
 //! `src/discovery.rt`.
 #![tactic(auto)]
 
-pub mod asks;
 pub mod discovery;
-mod known;
+pub mod failures;
 pub mod laws;
 pub mod reading;
-pub mod stops;
+pub mod requests;
+mod worklist;
 
 pub use discovery::discover;
+pub use failures::{Failure, failure_of};
 pub use reading::{read, read_by};
-pub use stops::{Stop, stop_of};

@@ -8,16 +8,16 @@ use Rattle.bz_base.specs.declared.module_graph.GraphNode.{GraphNode}
 use Rattle.bz_base.specs.declared.module_graph.Selected.{Selected}
 use Rattle.bz_base.specs.Keys.{node_text}
 
--- the node of a selected module, by its place in module order
+-- the node of a selected module, by its index in module order
 abbrev pub node_at : List GraphNode → List Chosen → ℕ → Option GraphNode
-node_at nodes modules place = option_and_then (λ chosen. slice_get nodes chosen.node)
-    (slice_get modules place)
+node_at nodes modules index = option_and_then (λ chosen. slice_get nodes chosen.node)
+    (slice_get modules index)
 
 -- `  APPARENT -> KEY`
 abbrev pub dep_line : List ℕ → GraphNode → List ℕ
 dep_line apparent needed = codes "  " ++ apparent ++ codes " -> " ++ node_text needed ++ codes "\n"
 
--- the line of a dependency that means the selected module of a place
+-- the line of a dependency that means the selected module of a index
 abbrev pub dep_line_of : List GraphNode → List Chosen → Dep × ℕ → List ℕ
 dep_line_of nodes modules pair = option_map_or (dep_line pair.0.apparent)
     (node_at nodes modules pair.1) []

@@ -7,13 +7,13 @@ use Rattle.mod_command.specs.declared.status.Status.TheVariants.{Done, Refused, 
 use Rattle.mod_command.specs.declared.status.Status.TheVariants.{WriteFault, LockStale, OutOfMemory}
 use Rattle.mod_command.specs.declared.status.Status.TheVariants.{LockFault}
 use Rattle.mod_command.specs.declared.status.WhichSink.TheVariants as which
-use Rattle.discovery.specs.declared.stops.Stop.{Stop}
-use Rattle.discovery.specs.declared.stops.Stop.TheVariants as stop
+use Rattle.discovery.specs.declared.failures.Failure.{Failure}
+use Rattle.discovery.specs.declared.failures.Failure.TheVariants as failure
 
-abbrev pub status_of_stop : Stop → Status
-status_of_stop (stop.Refused refusal) = Refused refusal
-status_of_stop (stop.ReadFault path) = ReadFault path
-status_of_stop stop.OutOfMemory = OutOfMemory
+abbrev pub status_of_failure : Failure → Status
+status_of_failure (failure.Refused refusal) = Refused refusal
+status_of_failure (failure.ReadFault path) = ReadFault path
+status_of_failure failure.OutOfMemory = OutOfMemory
 
 -- the text whole and then the line whole; or a front of the one or the other, with the status that
 -- says so

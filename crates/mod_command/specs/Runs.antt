@@ -7,7 +7,7 @@ use Rattle.bz_tree.specs.Writes.{appended}
 use Rattle.mod_command.specs.Commands.{command_of}
 use Rattle.mod_command.specs.Graphs.{graph_text_of}
 use Rattle.mod_command.specs.Statuses.{done_line, line_of, read_fault_line, refused_line}
-use Rattle.discovery.specs.Stopping.{Files}
+use Rattle.discovery.specs.Failures.{Files, TreeRun}
 use Rattle.mod_command.specs.Written.{IsFrontWritten}
 use Rattle.mod_command.specs.declared.command.Command.{Command}
 use Rattle.mod_command.specs.declared.command.Command.TheVariants.{Graph}
@@ -16,14 +16,6 @@ use Rattle.mod_command.specs.declared.status.Status.TheVariants.{Done, Refused, 
 use Rattle.mod_command.specs.declared.status.Status.TheVariants.{WriteFault, LockStale, OutOfMemory}
 use Rattle.mod_command.specs.declared.status.Status.TheVariants.{LockFault}
 use Rattle.mod_command.specs.declared.status.WhichSink.TheVariants as which
-
--- a tree over a run: its files, where it tells them, its counts of failed reads, and the path of
--- the last
-pub record TreeRun : Type 0 where
-  pub files : Option Files
-  pub faults_before : ℕ
-  pub faults_now : ℕ
-  pub failed_now : List ℕ
 
 -- a keeper over a run: the lockfile, where it tells it, and its counts of failed calls
 pub record KeeperRun : Type 0 where
@@ -38,15 +30,6 @@ pub record SinkRun : Type 0 where
   pub written_now : Option (List ℕ)
   pub faults_before : ℕ
   pub faults_now : ℕ
-
-abbrev pub tree_run : {T : Type 0} → (T → Option Files) → (T → ℕ) → (T → List ℕ) → T → T → TreeRun
-tree_run files faults failed before now =
-    record {
-      files = files before;
-      faults_before = faults before;
-      faults_now = faults now;
-      failed_now = failed now;
-    }
 
 abbrev pub keeper_run : {K : Type 0} → (K → Option (Option (List ℕ))) → (K → ℕ) → K → K → KeeperRun
 keeper_run held faults before now =
@@ -83,7 +66,7 @@ answer Graph look = graph_text_of look
 abbrev pub IsAnswered : Run → Result (List ℕ) Refusal → Type 0
 IsAnswered run outcome =
     MatchOption (command_of run.words) ⊥
-    (λ command. IfSome run.tree.files (λ look. answer command look ≡ outcome))
+    (λ command. IfSome run.tree.files_before (λ look. answer command look ≡ outcome))
 
 abbrev pub HasWhole : SinkRun → List ℕ → Type 0
 HasWhole sink bytes = sink.written_now ≡ appended sink.written_before bytes

@@ -23,8 +23,8 @@ abbrev pub line_part : ℕ → List ℕ
 line_part line = if line == 0 then [] else codes ":" ++ decimal line
 
 -- ` at FILE:LINE`, left out where there is no file
-abbrev pub place_part : Refusal → List ℕ
-place_part refusal =
+abbrev pub location_part : Refusal → List ℕ
+location_part refusal =
     if length refusal.file == 0 then []
     else codes " at " ++ refusal.file
     ++ line_part (if refusal.line == 0 then refusal.hint else refusal.line)
@@ -35,7 +35,7 @@ detail_part detail = if length detail == 0 then [] else codes ": " ++ detail
 
 unfoldable pub refused_line : Refusal → List ℕ
 refused_line refusal =
-    codes "modtool: refused " ++ code_name refusal.code ++ place_part refusal
+    codes "modtool: refused " ++ code_name refusal.code ++ location_part refusal
     ++ detail_part refusal.detail ++ codes "\n"
 
 unfoldable pub done_line : ℕ → ℕ → List ℕ

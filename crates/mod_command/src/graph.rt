@@ -5,24 +5,22 @@ ghost use Rattle.mod_command.specs.RootFiles.{root_of};
 ghost use Rattle.mod_command.specs.Graphs.{graph_text_of, text_of_selected};
 ghost use Rattle.bz_text.specs.Answers.{Gives};
 ghost use Rattle.selection.specs.Selection.{selected_of};
-ghost use Rattle.discovery.specs.Stopping.{GivesOver};
+ghost use Rattle.discovery.specs.Failures.{ReadsOver, tree_run};
 
 use crate::graph_text::write_graph;
 use crate::root_file::{read_root, root_path};
 use bz_base::{Graph, May, ModuleDecl, Refusal, Txt};
 use bz_tree::Tree;
 use discovery::discovery::discover;
+use discovery::failures::Failure;
 use discovery::reading::read;
-use discovery::stops::Stop;
 use selection::selection::select;
 use std::alloc::Global;
 
 /// The text of `graph` over the tree's files.
-pub(crate) fn graph_text<T: Tree>(alloc: Global, tree: &mut T) -> Result<Txt, Stop>
-    ensures text { GivesOver graph_text_of (T.files tree.old) (T.faults tree.old) (T.faults tree.new)
-        (T.failed tree.new) result }
-    ensures files_kept { T.files tree.new ≡ T.files tree.old }
-    ensures count_never_falls { T.faults tree.old ≤ T.faults tree.new }
+pub(crate) fn graph_text<T: Tree>(alloc: Global, tree: &mut T) -> Result<Txt, Failure>
+    ensures { ReadsOver graph_text_of
+        (tree_run T.files T.faults T.failed tree.old tree.new) result }
 {
     let root = declared_root(alloc, tree)?;
     let graph = discover(alloc, root, tree)?;
@@ -30,12 +28,9 @@ pub(crate) fn graph_text<T: Tree>(alloc: Global, tree: &mut T) -> Result<Txt, St
 }
 
 /// What the root file declares.
-fn declared_root<T: Tree>(alloc: Global, tree: &mut T) -> Result<ModuleDecl, Stop>
-    ensures root { GivesOver (λ look. root_of (look (codes "MODULE.bazel"))) (T.files tree.old)
-        (T.faults tree.old)
-        (T.faults tree.new) (T.failed tree.new) result }
-    ensures files_kept { T.files tree.new ≡ T.files tree.old }
-    ensures count_never_falls { T.faults tree.old ≤ T.faults tree.new }
+fn declared_root<T: Tree>(alloc: Global, tree: &mut T) -> Result<ModuleDecl, Failure>
+    ensures { ReadsOver (λ look. root_of (look (codes "MODULE.bazel")))
+        (tree_run T.files T.faults T.failed tree.old tree.new) result }
 {
     let path = root_path(alloc)?;
     let found = read(alloc, tree, path)?;

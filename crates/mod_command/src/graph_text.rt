@@ -61,13 +61,13 @@ fn push_deps(
     nodes: &[GraphNode],
     modules: &[Chosen],
     deps: &[Dep],
-    places: &[u64],
+    indexes: &[u64],
 ) -> Mem<()>
     ensures { OnOk result (string_bytes text.new ≡ string_bytes text.old ++ flat_map (dep_line_of
-        nodes.now modules.now) (zip deps.now places.now)) }
+        nodes.now modules.now) (zip deps.now indexes.now)) }
 {
-    for (dep, place) in deps.iter().zip(places) {
-        push_dep(text, nodes, modules, dep, *place)?;
+    for (dep, index) in deps.iter().zip(indexes) {
+        push_dep(text, nodes, modules, dep, *index)?;
     }
     Ok(())
 }
@@ -77,12 +77,12 @@ fn push_dep(
     nodes: &[GraphNode],
     modules: &[Chosen],
     dep: &Dep,
-    place: u64,
+    index: u64,
 ) -> Mem<()>
     ensures { OnOk result (string_bytes text.new ≡ string_bytes text.old ++ dep_line_of nodes.now
-        modules.now (dep.now, place)) }
+        modules.now (dep.now, index)) }
 {
-    match node_at(nodes, modules, place) {
+    match node_at(nodes, modules, index) {
         Some(needed) => push_dep_line(text, dep.apparent.as_str(), needed),
         None => Ok(()),
     }
@@ -99,10 +99,10 @@ fn push_dep_line(text: &mut String, apparent: &str, needed: &GraphNode) -> Mem<(
     Ok(text.push_str("\n")?)
 }
 
-/// The node of the selected module at a place in module order.
-fn node_at<'a>(nodes: &'a [GraphNode], modules: &[Chosen], place: u64) -> Option<&'a GraphNode>
-    ensures { option_copied result ≡ node_at nodes.now modules.now place }
+/// The node of the selected module at a index in module order.
+fn node_at<'a>(nodes: &'a [GraphNode], modules: &[Chosen], index: u64) -> Option<&'a GraphNode>
+    ensures { option_copied result ≡ node_at nodes.now modules.now index }
 {
-    let chosen = modules.get(place as usize)?;
+    let chosen = modules.get(index as usize)?;
     nodes.get(chosen.node as usize)
 }

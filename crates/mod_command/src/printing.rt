@@ -1,7 +1,7 @@
 //! What a run prints: its text and then its line, or the line of the status that comes in place of
 //! both.
 ghost use Rattle.std.specs.Prelude.{◌≡◌, ◌⊎◌};
-ghost use Rattle.mod_command.specs.Printing.{IsPrinted, IsPrintedOrLacksMemory, status_of_stop};
+ghost use Rattle.mod_command.specs.Printing.{IsPrinted, IsPrintedOrLacksMemory, status_of_failure};
 ghost use Rattle.mod_command.specs.Runs.{IsTold, sink_run};
 ghost use Rattle.mod_command.specs.Statuses.{line_of};
 ghost use Rattle.mod_command.specs.declared.status.Status.TheVariants.{OutOfMemory, ReadFault};
@@ -12,7 +12,7 @@ use crate::status::{Status, WhichSink};
 use crate::writing::write_all;
 use bz_base::{Refusal, TreePath, Txt};
 use bz_tree::Sink;
-use discovery::stops::Stop;
+use discovery::failures::Failure;
 use std::alloc::Global;
 
 /// Writes a line on `err`, whose failure changes no status.
@@ -24,14 +24,14 @@ pub(crate) fn tell<E: Sink>(err: &mut E, line: &str)
 
 /// Writes the line of what came in place of a text, or that memory ran out where there is none for
 /// that line.
-pub(crate) fn tell_stop<E: Sink>(alloc: Global, err: &mut E, stop: Stop) -> Status
-    ensures status { (result ≡ status_of_stop stop) ⊎ (result ≡ OutOfMemory) }
+pub(crate) fn tell_failure<E: Sink>(alloc: Global, err: &mut E, failure: Failure) -> Status
+    ensures status { (result ≡ status_of_failure failure) ⊎ (result ≡ OutOfMemory) }
     ensures told { IsTold (sink_run E.written E.faults err.old err.new) (line_of result) }
 {
-    match stop {
-        Stop::Refused(refusal) => tell_refusal(alloc, err, refusal),
-        Stop::ReadFault(path) => tell_read_fault(alloc, err, path),
-        Stop::OutOfMemory => tell_out_of_memory(err),
+    match failure {
+        Failure::Refused(refusal) => tell_refusal(alloc, err, refusal),
+        Failure::ReadFault(path) => tell_read_fault(alloc, err, path),
+        Failure::OutOfMemory => tell_out_of_memory(err),
     }
 }
 

@@ -1,7 +1,7 @@
 //! What a run leaves: its status, its text and its line, made whole in memory before a byte is
 //! written.
 ghost use Rattle.std.specs.Prelude.{◌≡◌, ◌++◌, OnOk, IfOk, string_bytes, decimal};
-ghost use Rattle.mod_command.specs.Statuses.{detail_part, done_line, line_part, place_part};
+ghost use Rattle.mod_command.specs.Statuses.{detail_part, done_line, line_part, location_part};
 ghost use Rattle.mod_command.specs.Statuses.{read_fault_line, refused_line};
 
 use bz_base::{Mem, Refusal, Txt};
@@ -35,14 +35,14 @@ pub(crate) fn refused_text(alloc: Global, refusal: &Refusal) -> Mem<Txt>
 {
     let mut line = String::from_str(alloc, "modtool: refused ")?;
     line.push_str(refusal.code.name())?;
-    push_place(alloc, &mut line, refusal)?;
+    push_location(alloc, &mut line, refusal)?;
     push_detail(&mut line, refusal.detail.as_str())?;
     line.push_str("\n")?;
     Ok(Txt::of_string(line))
 }
 
-fn push_place(alloc: Global, line: &mut String, refusal: &Refusal) -> Mem<()>
-    ensures { OnOk result (string_bytes line.new ≡ string_bytes line.old ++ place_part refusal.now) }
+fn push_location(alloc: Global, line: &mut String, refusal: &Refusal) -> Mem<()>
+    ensures { OnOk result (string_bytes line.new ≡ string_bytes line.old ++ location_part refusal.now) }
 {
     let file = refusal.file.as_str();
     if file.is_empty() {

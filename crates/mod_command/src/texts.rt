@@ -1,21 +1,19 @@
 //! The text of each command.
 ghost use Rattle.std.specs.Prelude.{◌≡◌, ◌≤◌};
 ghost use Rattle.mod_command.specs.Runs.{answer};
-ghost use Rattle.discovery.specs.Stopping.{GivesOver};
+ghost use Rattle.discovery.specs.Failures.{ReadsOver, tree_run};
 
 use crate::command::Command;
 use crate::graph::graph_text;
 use bz_base::Txt;
 use bz_tree::Tree;
-use discovery::stops::Stop;
+use discovery::failures::Failure;
 use std::alloc::Global;
 
 /// The command's text over the tree's files.
-pub(crate) fn text<T: Tree>(alloc: Global, command: Command, tree: &mut T) -> Result<Txt, Stop>
-    ensures text { GivesOver (answer command) (T.files tree.old) (T.faults tree.old) (T.faults tree.new)
-        (T.failed tree.new) result }
-    ensures files_kept { T.files tree.new ≡ T.files tree.old }
-    ensures count_never_falls { T.faults tree.old ≤ T.faults tree.new }
+pub(crate) fn text<T: Tree>(alloc: Global, command: Command, tree: &mut T) -> Result<Txt, Failure>
+    ensures { ReadsOver (answer command)
+        (tree_run T.files T.faults T.failed tree.old tree.new) result }
 {
     match command {
         Command::Graph => graph_text(alloc, tree),

@@ -1,9 +1,10 @@
 //! The call that a program makes: from words over a tree, a keeper and two sinks to a status.
 ghost use Rattle.std.specs.Prelude.{◌≡◌, map, string_bytes};
-ghost use Rattle.mod_command.specs.Runs.{Promised, keeper_run, sink_run, tree_run};
+ghost use Rattle.discovery.specs.Failures.{tree_run};
+ghost use Rattle.mod_command.specs.Runs.{Promised, keeper_run, sink_run};
 
 use crate::command::read_words;
-use crate::printing::{print_done, tell, tell_stop};
+use crate::printing::{print_done, tell, tell_failure};
 use crate::status::Status;
 use crate::texts::text;
 use bz_base::{EnvTable, Steps};
@@ -43,7 +44,7 @@ pub fn evaluate_one<T: Tree, K: LockKeeper, S: Sink, E: Sink, L: Ledger>(
         return Status::Usage;
     };
     match text(alloc, command, tree) {
-        Err(stop) => tell_stop(alloc, err, stop),
+        Err(failure) => tell_failure(alloc, err, failure),
         Ok(text) => print_done(alloc, out, err, &text),
     }
 }

@@ -11,7 +11,7 @@ use Rattle.bz_base.specs.declared.module_graph.GraphNode.{GraphNode}
 use Rattle.bz_version.specs.Precedence.{precedence}
 use Rattle.selection.proofs.ChoiceTables.{versions_have_heights}
 use Rattle.selection.proofs.Choices.{HasChoice-more}
-use Rattle.selection.proofs.FirstPlaces.{FoundAt, position_from-item}
+use Rattle.selection.proofs.FirstIndexes.{FoundAt, position_from-item}
 use Rattle.selection.specs.SelectionLaws.{HasNone, IsHighest}
 use Rattle.selection.specs.Selection.{choice, is_choice, is_greater, is_member, is_superior}
 use Rattle.selection.specs.Selection.{is_unsurpassed}
@@ -28,13 +28,13 @@ not_above : (name : List ℕ) (node other : GraphNode)
 not_above name node other h named above = absurd
     (cc (sym h ∙ (λ i. not (is_member-named name other (sym named) i && is_greater (above i)))))
 
-pub choice-highest : (name : List ℕ) (nodes : List GraphNode) (place : ℕ)
-    → choice name nodes ≡ Some place
-    → IsHighest name nodes place
-choice-highest name nodes place e =
-    let found : FoundAt (is_choice name nodes) 0 nodes place = position_from-item
-    (is_choice name nodes) 0 nodes place e in
-    let same : place ≡ found.offset = omega (arith, found.at) in
+pub choice-highest : (name : List ℕ) (nodes : List GraphNode) (index : ℕ)
+    → choice name nodes ≡ Some index
+    → IsHighest name nodes index
+choice-highest name nodes index e =
+    let found : FoundAt (is_choice name nodes) 0 nodes index = position_from-item
+    (is_choice name nodes) 0 nodes index e in
+    let same : index ≡ found.offset = omega (arith, found.at) in
     let parts : (is_member name found.item ≡ true)
     × (is_unsurpassed name nodes found.item ≡ true) = and_parts (is_member name found.item)
     (is_unsurpassed name nodes found.item) found.passes in

@@ -13,7 +13,7 @@ use Rattle.bz_base.specs.declared.module_graph.GraphNode.{GraphNode}
 use Rattle.bz_version.proofs.Orders.{precedence_chained, precedence_itself, precedence_same}
 use Rattle.bz_version.proofs.Orders.{precedence_turned}
 use Rattle.bz_version.specs.Precedence.{precedence}
-use Rattle.selection.proofs.Choices.{Heights, next_place, place-grown}
+use Rattle.selection.proofs.Choices.{Heights, next_index, index-grown}
 use Rattle.selection.specs.ChoiceTables.{HasChoices, is_kept, listed}
 use Rattle.selection.specs.Selection.{choice, is_greater, is_member, is_superior}
 
@@ -57,21 +57,21 @@ versions_have_heights = record {
 }
 
 -- what stands beside a name after one more entry
-listed-insert_entry : (entries : List (String Global × ℕ)) (k : String Global) (place : ℕ)
+listed-insert_entry : (entries : List (String Global × ℕ)) (k : String Global) (index : ℕ)
     (name : List ℕ)
-    → listed (insert_entry string_eq entries k place) name
-    ≡ (if bytes_eq name (string_bytes k) then Some place else listed entries name)
-listed-insert_entry [] k place name = refl
-listed-insert_entry (e ∷ es) k place name = by (bytes_eq (string_bytes k) (string_bytes e.0)) refl
-    (listed-insert_entry es k place name)
+    → listed (insert_entry string_eq entries k index) name
+    ≡ (if bytes_eq name (string_bytes k) then Some index else listed entries name)
+listed-insert_entry [] k index name = refl
+listed-insert_entry (e ∷ es) k index name = by (bytes_eq (string_bytes k) (string_bytes e.0)) refl
+    (listed-insert_entry es k index name)
   where
     same : bytes_eq (string_bytes k) (string_bytes e.0) ≡ true
         → bytes_eq name (string_bytes k) ≡ bytes_eq name (string_bytes e.0)
     same h = ap (bytes_eq name) ((bytes_eq-Decides (string_bytes k) (string_bytes e.0)).0 h)
 
     twice : (b : Bool)
-        → (if b then Some place else listed es name)
-        ≡ (if b then Some place else if b then Some e.1 else listed es name)
+        → (if b then Some index else listed es name)
+        ≡ (if b then Some index else if b then Some e.1 else listed es name)
     twice true = refl
     twice false = refl
 
@@ -80,10 +80,10 @@ listed-insert_entry (e ∷ es) k place name = by (bytes_eq (string_bytes k) (str
         → bytes_eq name (string_bytes e.0) ≡ b
         → (d : Bool)
         → bytes_eq name (string_bytes k) ≡ d
-        → listed (insert_entry string_eq es k place) name
-        ≡ (if d then Some place else listed es name)
-        → (if b then Some e.1 else listed (insert_entry string_eq es k place) name)
-        ≡ (if d then Some place else if b then Some e.1 else listed es name)
+        → listed (insert_entry string_eq es k index) name
+        ≡ (if d then Some index else listed es name)
+        → (if b then Some e.1 else listed (insert_entry string_eq es k index) name)
+        ≡ (if d then Some index else if b then Some e.1 else listed es name)
     apart h true b true d further =
         let one : name ≡ string_bytes e.0 = (bytes_eq-Decides name (string_bytes e.0)).0 b in
         let other : name ≡ string_bytes k = (bytes_eq-Decides name (string_bytes k)).0 d in
@@ -96,19 +96,19 @@ listed-insert_entry (e ∷ es) k place name = by (bytes_eq (string_bytes k) (str
     apart h false b false d further = further
 
     by : (t : Bool) → bytes_eq (string_bytes k) (string_bytes e.0) ≡ t
-        → listed (insert_entry string_eq es k place) name
-        ≡ (if bytes_eq name (string_bytes k) then Some place else listed es name)
-        → listed (if t then (e.0, place) ∷ es else e ∷ insert_entry string_eq es k place) name
-        ≡ (if bytes_eq name (string_bytes k) then Some place else listed (e ∷ es) name)
+        → listed (insert_entry string_eq es k index) name
+        ≡ (if bytes_eq name (string_bytes k) then Some index else listed es name)
+        → listed (if t then (e.0, index) ∷ es else e ∷ insert_entry string_eq es k index) name
+        ≡ (if bytes_eq name (string_bytes k) then Some index else listed (e ∷ es) name)
     by true t further = twice (bytes_eq name (string_bytes e.0))
-        ∙ ap (λ b. if b then Some place else listed (e ∷ es) name) (sym (same t))
+        ∙ ap (λ b. if b then Some index else listed (e ∷ es) name) (sym (same t))
     by false t further = apart t (bytes_eq name (string_bytes e.0)) refl
         (bytes_eq name (string_bytes k)) refl further
 
 choice-grown : (name : List ℕ) (nodes : List GraphNode) (node : GraphNode)
     → choice name (nodes ++ node ∷ [])
-    ≡ next_place (is_member name) is_superior nodes node (choice name nodes)
-choice-grown name nodes node = place-grown
+    ≡ next_index (is_member name) is_superior nodes node (choice name nodes)
+choice-grown name nodes node = index-grown
     (is_member name) is_superior versions_have_heights nodes node
 
 -- a node that leaves the choice of its group

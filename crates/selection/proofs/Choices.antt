@@ -5,9 +5,9 @@ use Rattle.std.proofs.Common.{append_assoc, append-nil, subst}
 use Rattle.std.proofs.lemmas.List.Folds.{list_all-append}
 use Rattle.std.specs.List.{list_all, position_from, slice_get}
 use Rattle.std.specs.Option.{option_map_or}
-use Rattle.selection.proofs.FirstPlaces.{FoundAt, position_from-alike, position_from-front}
-use Rattle.selection.proofs.FirstPlaces.{position_from-item, position_from-last}
-use Rattle.selection.proofs.FirstPlaces.{position_from-narrower}
+use Rattle.selection.proofs.FirstIndexes.{FoundAt, position_from-alike, position_from-front}
+use Rattle.selection.proofs.FirstIndexes.{position_from-item, position_from-last}
+use Rattle.selection.proofs.FirstIndexes.{position_from-narrower}
 
 -- the order: nothing is above itself, what is above is not below, and what is above a top is above
 -- all that isn't above that top
@@ -27,8 +27,8 @@ module _ {X : Type 0} (member : X → Bool) (above : X → X → Bool) where
   abbrev pub is_first : List X → X → Bool
   is_first xs x = member x && is_top xs x
 
-  abbrev pub place : List X → Option ℕ
-  place xs = position_from (is_first xs) 0 xs
+  abbrev pub index : List X → Option ℕ
+  index xs = position_from (is_first xs) 0 xs
 
   abbrev pub has_none : List X → Bool
   has_none xs = list_all (λ x. not (member x)) xs
@@ -38,8 +38,8 @@ module _ {X : Type 0} (member : X → Bool) (above : X → X → Bool) where
   stays xs x chosen = option_map_or
       (λ i. option_map_or (λ other. not (above x other)) (slice_get xs i) false) chosen false
 
-  abbrev pub next_place : List X → X → Option ℕ → Option ℕ
-  next_place xs x chosen = if member x && not (stays xs x chosen) then Some (length xs) else chosen
+  abbrev pub next_index : List X → X → Option ℕ → Option ℕ
+  next_index xs x chosen = if member x && not (stays xs x chosen) then Some (length xs) else chosen
 
   is_top-more : (xs : List X) (last x : X)
       → is_top (xs ++ last ∷ []) x ≡ (is_top xs x && (not (member last && above last x) && true))
@@ -196,18 +196,18 @@ module _ {X : Type 0} (member : X → Bool) (above : X → X → Bool) where
 
   -- a group with a member has a choice
   abbrev pub HasChoice : List X → Type 0
-  HasChoice xs = place xs ≡ None → has_none xs ≡ true
+  HasChoice xs = index xs ≡ None → has_none xs ≡ true
 
-  grown_other : (xs : List X) (last : X) → member last ≡ false → place (xs ++ last ∷ []) ≡ place xs
-  grown_other xs last out = by (place xs) refl
+  grown_other : (xs : List X) (last : X) → member last ≡ false → index (xs ++ last ∷ []) ≡ index xs
+  grown_other xs last out = by (index xs) refl
     where
-      longer : position_from (is_first (xs ++ last ∷ [])) 0 xs ≡ place xs
+      longer : position_from (is_first (xs ++ last ∷ [])) 0 xs ≡ index xs
       longer = position_from-alike _ _ 0 xs (λ x. is_first-other xs last x out)
 
       not_last : is_first (xs ++ last ∷ []) last ≡ false
       not_last = ap (λ m. m && is_top (xs ++ last ∷ []) last) out
 
-      by : (chosen : Option ℕ) → place xs ≡ chosen → place (xs ++ last ∷ []) ≡ place xs
+      by : (chosen : Option ℕ) → index xs ≡ chosen → index (xs ++ last ∷ []) ≡ index xs
       by None e = position_from-last _ 0 xs last (longer ∙ e)
           ∙ ap (λ b. if b then Some (0 + length xs) else None) not_last ∙ sym e
       by (Some i) e = position_from-front _ 0 xs (last ∷ []) i (longer ∙ e) ∙ sym e
@@ -215,7 +215,7 @@ module _ {X : Type 0} (member : X → Bool) (above : X → X → Bool) where
   grown_last : (xs : List X) (last : X)
       → position_from (is_first (xs ++ last ∷ [])) 0 xs ≡ None
       → is_first (xs ++ last ∷ []) last ≡ true
-      → place (xs ++ last ∷ []) ≡ Some (length xs)
+      → index (xs ++ last ∷ []) ≡ Some (length xs)
   grown_last xs last none first = position_from-last _ 0 xs last none
       ∙ ap (λ b. if b then Some (0 + length xs) else None) first ∙ ap Some zero_plus
     where
@@ -227,7 +227,7 @@ module _ {X : Type 0} (member : X → Bool) (above : X → X → Bool) where
       → (xs : List X) (last : X)
       → member last ≡ true
       → has_none xs ≡ true
-      → place (xs ++ last ∷ []) ≡ Some (length xs)
+      → index (xs ++ last ∷ []) ≡ Some (length xs)
   grown_alone heights xs last there none =
       grown_last xs last (none_first _ (λ x out. ap (λ m. m && is_top (xs ++ last ∷ []) x) out) 0 xs
       none) (last_first heights xs last there (none_top last xs none))
@@ -238,7 +238,7 @@ module _ {X : Type 0} (member : X → Bool) (above : X → X → Bool) where
       → member last ≡ true
       → is_first xs item ≡ true
       → above last item ≡ true
-      → place (xs ++ last ∷ []) ≡ Some (length xs)
+      → index (xs ++ last ∷ []) ≡ Some (length xs)
   grown_above heights xs last item there first high =
       let top : is_top xs item ≡ true = second (member item) (is_top xs item) first in
       grown_last xs last
@@ -249,17 +249,17 @@ module _ {X : Type 0} (member : X → Bool) (above : X → X → Bool) where
 
   -- a member that isn't above the choice leaves it
   grown_below : (xs : List X) (last : X) (i : ℕ)
-      → place xs ≡ Some i
+      → index xs ≡ Some i
       → (found : FoundAt (is_first xs) 0 xs i)
       → above last found.item ≡ false
-      → place (xs ++ last ∷ []) ≡ Some i
+      → index (xs ++ last ∷ []) ≡ Some i
   grown_below xs last i e found low =
       position_from-front _ 0 xs (last ∷ []) i
       (position_from-narrower _ _ 0 xs found.item found.first
       (is_first-kept xs last found.item found.passes low) (is_first-fewer xs last) ∙ e)
 
   stays-none : (xs : List X) (last : X)
-      → next_place xs last None ≡ (if member last then Some (length xs) else None)
+      → next_index xs last None ≡ (if member last then Some (length xs) else None)
   stays-none xs last = by (member last)
     where
       by : (m : Bool)
@@ -280,43 +280,43 @@ module _ {X : Type 0} (member : X → Bool) (above : X → X → Bool) where
       → (xs : List X) (last : X)
       → member last ≡ true
       → HasChoice xs
-      → place (xs ++ last ∷ []) ≡ next_place xs last (place xs)
-  grown_member heights xs last there chosen = by (place xs) refl
+      → index (xs ++ last ∷ []) ≡ next_index xs last (index xs)
+  grown_member heights xs last there chosen = by (index xs) refl
     where
       next : (placed : Option ℕ) (s : Bool)
           → stays xs last placed ≡ s
-          → next_place xs last placed ≡ (if not s then Some (length xs) else placed)
+          → next_index xs last placed ≡ (if not s then Some (length xs) else placed)
       next placed s e = λ i. if there i && not (e i) then Some (length xs) else placed
 
       at : (i : ℕ)
-          → place xs ≡ Some i
+          → index xs ≡ Some i
           → (found : FoundAt (is_first xs) 0 xs i)
           → (a : Bool)
           → above last found.item ≡ a
-          → place (xs ++ last ∷ []) ≡ next_place xs last (Some i)
+          → index (xs ++ last ∷ []) ≡ next_index xs last (Some i)
       at i e found true a = grown_above heights xs last found.item there found.passes a
           ∙ sym (next (Some i) false (stays-some xs last i found ∙ ap not a))
       at i e found false a = grown_below xs last i e found a
           ∙ sym (next (Some i) true (stays-some xs last i found ∙ ap not a))
 
       by : (placed : Option ℕ)
-          → place xs ≡ placed
-          → place (xs ++ last ∷ []) ≡ next_place xs last (place xs)
+          → index xs ≡ placed
+          → index (xs ++ last ∷ []) ≡ next_index xs last (index xs)
       by None e = grown_alone heights xs last there (chosen e)
-          ∙ sym (ap (next_place xs last) e ∙ next None false refl)
+          ∙ sym (ap (next_index xs last) e ∙ next None false refl)
       by (Some i) e = let found = position_from-item _ 0 xs i e in at i e found _ refl
-          ∙ ap (next_place xs last) (sym e)
+          ∙ ap (next_index xs last) (sym e)
 
   grown_either : Heights X above
       → (xs : List X) (last : X)
       → HasChoice xs
-      → place (xs ++ last ∷ []) ≡ next_place xs last (place xs)
+      → index (xs ++ last ∷ []) ≡ next_index xs last (index xs)
   grown_either heights xs last chosen = by (member last) refl
     where
-      by : (m : Bool) → member last ≡ m → place (xs ++ last ∷ []) ≡ next_place xs last (place xs)
+      by : (m : Bool) → member last ≡ m → index (xs ++ last ∷ []) ≡ next_index xs last (index xs)
       by true there = grown_member heights xs last there chosen
       by false out = grown_other xs last out
-          ∙ sym (ap (λ m. if m && not (stays xs last (place xs)) then Some (length xs) else place
+          ∙ sym (ap (λ m. if m && not (stays xs last (index xs)) then Some (length xs) else index
           xs) out)
 
   HasChoice-grown : Heights X above
@@ -324,17 +324,17 @@ module _ {X : Type 0} (member : X → Bool) (above : X → X → Bool) where
       → HasChoice xs
       → HasChoice (xs ++ last ∷ [])
   HasChoice-grown heights xs last chosen none = list_all-append (λ x. not (member x)) xs (last ∷ [])
-      ∙ by (member last) (place xs) refl (stays xs last (place xs)) refl
+      ∙ by (member last) (index xs) refl (stays xs last (index xs)) refl
       (sym (grown_either heights xs last chosen) ∙ none)
     where
       by : (m : Bool) (placed : Option ℕ)
-          → place xs ≡ placed
+          → index xs ≡ placed
           → (s : Bool)
-          → stays xs last (place xs) ≡ s
-          → (if m && not s then Some (length xs) else place xs) ≡ None
+          → stays xs last (index xs) ≡ s
+          → (if m && not s then Some (length xs) else index xs) ≡ None
           → (has_none xs && (not m && true)) ≡ true
       by true placed e false is_s h = absurd (cc)
-      by true None e true is_s h = let q : stays xs last (place xs)
+      by true None e true is_s h = let q : stays xs last (index xs)
           ≡ false = ap (stays xs last) e in absurd (cc)
       by true (Some i) e true is_s h = absurd (cc)
       by false placed e s is_s h = ap (λ b. b && true) (chosen h)
@@ -345,8 +345,8 @@ module _ {X : Type 0} (member : X → Bool) (above : X → X → Bool) where
       (HasChoice-more heights (xs ++ x ∷ []) more (HasChoice-grown heights xs x chosen))
 
   -- the choice beside one more item
-  pub place-grown : Heights X above
+  pub index-grown : Heights X above
       → (xs : List X) (last : X)
-      → place (xs ++ last ∷ []) ≡ next_place xs last (place xs)
-  place-grown heights xs last = grown_either heights xs last
+      → index (xs ++ last ∷ []) ≡ next_index xs last (index xs)
+  index-grown heights xs last = grown_either heights xs last
       (HasChoice-more heights [] xs (λ none. refl))

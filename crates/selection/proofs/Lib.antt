@@ -1,6 +1,6 @@
 pub mod ChoiceLaws
 pub mod ChoiceTables
 pub mod Choices
-pub mod FirstPlaces
+pub mod FirstIndexes
 pub mod SelectionLaws
 pub mod SelectionWalks

@@ -10,9 +10,9 @@ ghost use Rattle.selection.specs.SelectionLaws.{HasNone, IsHighest, IsSelection}
 /// The choice of a name is the highest version that stands under it, and every name that stands has
 /// one.
 pub fn choice_is_highest()
-    ensures chosen { (name : List ℕ) (nodes : List GraphNode) (place : ℕ)
-        → choice name nodes ≡ Some place
-        → IsHighest name nodes place }
+    ensures chosen { (name : List ℕ) (nodes : List GraphNode) (index : ℕ)
+        → choice name nodes ≡ Some index
+        → IsHighest name nodes index }
     ensures absent { (name : List ℕ) (nodes : List GraphNode) → choice name nodes ≡ None → HasNone name nodes }
 {}
 

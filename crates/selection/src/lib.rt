@@ -1,7 +1,8 @@
 //! Selection: of the versions of a module that are asked for the highest is chosen, and what the
 //! root then needs is selected.
 //!
-//! In comes a `Graph`; out goes `Selected`, places in the graph with places of their dependencies,
+//! In comes a `Graph`; out goes `Selected`, indexes in the graph with indexes of their
+//! dependencies,
 //! in module order. Of a graph nothing is refused.
 //! Read `specs/Selection.antt` first: the choice of a name is the highest requested version of that
 //! module, and the selected modules are the walk of `bz_walks` over choices.

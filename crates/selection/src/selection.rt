@@ -6,8 +6,8 @@ ghost use Rattle.std.specs.List.{position_from};
 ghost use Rattle.indexmap.specs.IndexSet.{insert_all};
 ghost use Rattle.bz_text.specs.Answers.{Gives};
 ghost use Rattle.selection.specs.ChoiceTables.{HasChoices, is_kept, listed};
-ghost use Rattle.selection.specs.Selection.{chosen_at, chosen_of, is_superior, places_in};
-ghost use Rattle.selection.specs.Selection.{places_walked, selected_of, selected_of_nodes};
+ghost use Rattle.selection.specs.Selection.{chosen_at, chosen_of, is_superior, indexes_in};
+ghost use Rattle.selection.specs.Selection.{indexes_walked, selected_of, selected_of_nodes};
 
 use bz_base::{Chosen, Graph, GraphNode, Key, May, Mem, Refusal, Selected, Seq};
 use bz_version::order_texts;
@@ -30,20 +30,20 @@ fn select_nodes(alloc: Global, nodes: &[GraphNode]) -> Mem<Selected>
         });
     }
     let table = choices(alloc, nodes)?;
-    let places = places(alloc, nodes, &table)?;
-    let modules = modules(alloc, nodes, &table, &places)?;
+    let indexes = indexes(alloc, nodes, &table)?;
+    let modules = modules(alloc, nodes, &table, &indexes)?;
     Ok(Selected {
         modules: Seq::of_vec(modules),
     })
 }
 
-/// The place of each group's choice, by the group's name.
+/// The index of each module's highest requested version, by the module's name.
 fn choices(alloc: Global, nodes: &[GraphNode]) -> Mem<IndexMap<String, u64>>
     ensures { IfOk result (λ table. HasChoices nodes.now table.entries) }
 {
     let mut table = IndexMap::new(alloc);
-    for (place, node) in nodes.iter().enumerate() {
-        choose(alloc, &mut table, &nodes[..place], node)?;
+    for (index, node) in nodes.iter().enumerate() {
+        choose(alloc, &mut table, &nodes[..index], node)?;
     }
     Ok(table)
 }
@@ -71,7 +71,7 @@ fn is_kept(nodes: &[GraphNode], node: &GraphNode, chosen: Option<u64>) -> bool
     ensures { result ≡ is_kept nodes.now node.now chosen }
 {
     match chosen {
-        Some(place) => match nodes.get(place as usize) {
+        Some(index) => match nodes.get(index as usize) {
             Some(other) => !is_superior(node, other),
             None => false,
         },
@@ -91,54 +91,54 @@ fn listed(table: &IndexMap<String, u64>, name: &str) -> Option<u64>
     table.get(name).copied()
 }
 
-/// The places of the selected modules, in module order.
-fn places(alloc: Global, nodes: &[GraphNode], table: &IndexMap<String, u64>) -> Mem<IndexSet<u64>>
+/// The indexes of the selected modules, in module order.
+fn indexes(alloc: Global, nodes: &[GraphNode], table: &IndexMap<String, u64>) -> Mem<IndexSet<u64>>
     requires some { 0 < length nodes.now }
     requires choices { HasChoices nodes.now table.now.entries }
-    ensures { IfOk result (λ places. places_walked nodes.now ≡ Ok (record {
-      known = places.keys;
+    ensures { IfOk result (λ indexes. indexes_walked nodes.now ≡ Ok (record {
+      known = indexes.keys;
       nodes =
-          places.keys;
+          indexes.keys;
     })) }
 {
-    let mut places = IndexSet::new(alloc);
-    places.insert(0)?;
+    let mut indexes = IndexSet::new(alloc);
+    indexes.insert(0)?;
     let mut next = 0;
-    'walk: while let Some(place) = place_at(&places, next) {
-        let chosen = chosen_at(alloc, nodes, table, place)?;
-        add_each(&mut places, chosen.as_slice())?;
+    'walk: while let Some(index) = index_at(&indexes, next) {
+        let chosen = chosen_at(alloc, nodes, table, index)?;
+        add_each(&mut indexes, chosen.as_slice())?;
         next += 1;
     }
-    Ok(places)
+    Ok(indexes)
 }
 
-fn place_at(places: &IndexSet<u64>, index: usize) -> Option<u64>
-    ensures { result ≡ slice_get places.now.keys index }
+fn index_at(indexes: &IndexSet<u64>, position: usize) -> Option<u64>
+    ensures { result ≡ slice_get indexes.now.keys position }
 {
-    places.get_index(index).copied()
+    indexes.get_index(position).copied()
 }
 
-/// Puts each of the places that isn't there yet at the end.
-fn add_each(places: &mut IndexSet<u64>, more: &[u64]) -> Mem<()>
-    ensures { OnOk result (places.new.keys ≡ insert_all nat_eq places.old.keys more.now) }
+/// Puts each of the indexes that isn't there yet at the end.
+fn add_each(indexes: &mut IndexSet<u64>, more: &[u64]) -> Mem<()>
+    ensures { OnOk result (indexes.new.keys ≡ insert_all nat_eq indexes.old.keys more.now) }
 {
-    for place in more {
-        places.insert(*place)?;
+    for index in more {
+        indexes.insert(*index)?;
     }
     Ok(())
 }
 
-/// The choice of each need of the node at a place.
+/// The choice of each need of the node at an index.
 fn chosen_at(
     alloc: Global,
     nodes: &[GraphNode],
     table: &IndexMap<String, u64>,
-    place: u64,
+    index: u64,
 ) -> Mem<Vec<u64>>
     requires { HasChoices nodes.now table.now.entries }
-    ensures { IfOk result (λ chosen. chosen.items ≡ chosen_at nodes.now place) }
+    ensures { IfOk result (λ chosen. chosen.items ≡ chosen_at nodes.now index) }
 {
-    match nodes.get(place as usize) {
+    match nodes.get(index as usize) {
         Some(node) => chosen_needs(alloc, table, node.needs.items()),
         None => Ok(Vec::new(alloc)),
     }
@@ -161,15 +161,15 @@ fn modules(
     alloc: Global,
     nodes: &[GraphNode],
     table: &IndexMap<String, u64>,
-    places: &IndexSet<u64>,
+    indexes: &IndexSet<u64>,
 ) -> Mem<Vec<Chosen>>
     requires { HasChoices nodes.now table.now.entries }
-    ensures { IfOk result (λ modules. modules.items ≡ map (chosen_of nodes.now places.now.keys)
-        places.now.keys) }
+    ensures { IfOk result (λ modules. modules.items ≡ map (chosen_of nodes.now indexes.now.keys)
+        indexes.now.keys) }
 {
     let mut modules = Vec::new(alloc);
-    for place in places.as_slice() {
-        modules.push(chosen_of(alloc, nodes, table, places, *place)?)?;
+    for index in indexes.as_slice() {
+        modules.push(chosen_of(alloc, nodes, table, indexes, *index)?)?;
     }
     Ok(modules)
 }
@@ -178,34 +178,34 @@ fn chosen_of(
     alloc: Global,
     nodes: &[GraphNode],
     table: &IndexMap<String, u64>,
-    places: &IndexSet<u64>,
-    place: u64,
+    indexes: &IndexSet<u64>,
+    index: u64,
 ) -> Mem<Chosen>
     requires { HasChoices nodes.now table.now.entries }
-    ensures { IfOk result (λ chosen. chosen ≡ chosen_of nodes.now places.now.keys place) }
+    ensures { IfOk result (λ chosen. chosen ≡ chosen_of nodes.now indexes.now.keys index) }
 {
-    let chosen = chosen_at(alloc, nodes, table, place)?;
-    let deps = places_in(alloc, places, chosen.as_slice())?;
+    let chosen = chosen_at(alloc, nodes, table, index)?;
+    let deps = indexes_in(alloc, indexes, chosen.as_slice())?;
     Ok(Chosen {
-        node: place,
+        node: index,
         deps: Seq::of_vec(deps),
     })
 }
 
-/// The places of the chosen among the selected modules.
-fn places_in(alloc: Global, places: &IndexSet<u64>, chosen: &[u64]) -> Mem<Vec<u64>>
-    ensures { IfOk result (λ deps. deps.items ≡ places_in places.now.keys chosen.now) }
+/// The indexes of the chosen among the selected modules.
+fn indexes_in(alloc: Global, indexes: &IndexSet<u64>, chosen: &[u64]) -> Mem<Vec<u64>>
+    ensures { IfOk result (λ deps. deps.items ≡ indexes_in indexes.now.keys chosen.now) }
 {
     let deps = chosen
         .iter()
-        .filter_map(|place| index_of(places, *place))
+        .filter_map(|index| index_of(indexes, *index))
         .collect(alloc)?;
     Ok(deps)
 }
 
-fn index_of(places: &IndexSet<u64>, place: u64) -> Option<u64>
-    ensures { result ≡ position_from (nat_eq place) 0 places.now.keys }
+fn index_of(indexes: &IndexSet<u64>, index: u64) -> Option<u64>
+    ensures { result ≡ position_from (nat_eq index) 0 indexes.now.keys }
 {
-    let index = places.get_index_of(&place)?;
-    Some(index as u64)
+    let position = indexes.get_index_of(&index)?;
+    Some(position as u64)
 }

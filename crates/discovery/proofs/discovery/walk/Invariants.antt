@@ -1,13 +1,13 @@
 use Rattle.std.proofs.Common.{◌≡◌, ◌≤◌, ◌-◌, Ok, Some, length}
 use Rattle.discovery.specs.Discovery.{discovery, most_keys}
-use Rattle.discovery.specs.Stopping.{Files}
+use Rattle.discovery.specs.Failures.{Files}
 use Rattle.bz_walks.specs.Walks.{levels}
 use Rattle.bz_walks.proofs.WalkSteps.{walk_on}
 use Rattle.discovery.proofs.discovery.walk.Given as goal
 
 -- from here on the walk gives what it gives from the beginning
-abbrev pub invariant-asks : goal.invariant-asks
-invariant-asks g l =
+abbrev pub invariant-requests : goal.invariant-requests
+invariant-requests g l =
     ((look : Files)
     → g.T.Tree.files l.initial.tree ≡ Some look
     → walk_on (discovery look l.root) (most_keys - length l.nodes)
@@ -19,5 +19,5 @@ invariant-asks g l =
     × (length l.known ≤ most_keys)
     × (length l.nodes ≤ length l.known)
 
-abbrev pub decreases-asks : goal.decreases-asks
-decreases-asks g l = most_keys - length l.nodes
+abbrev pub decreases-requests : goal.decreases-requests
+decreases-requests g l = most_keys - length l.nodes

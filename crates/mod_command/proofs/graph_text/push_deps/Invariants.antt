@@ -8,4 +8,4 @@ abbrev pub invariant-loop-dep : goal.invariant-loop-dep
 invariant-loop-dep l =
     string_bytes l.text ++ flat_map (dep_line_of l.nodes l.modules) (zip l.dep-iterator.a.rest.now
     l.dep-iterator.b.rest.now) ≡ string_bytes l.initial.text
-    ++ flat_map (dep_line_of l.nodes l.modules) (zip l.deps l.places)
+    ++ flat_map (dep_line_of l.nodes l.modules) (zip l.deps l.indexes)

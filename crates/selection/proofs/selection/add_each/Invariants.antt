@@ -3,7 +3,7 @@ use Rattle.std.specs.Prelude.{nat_eq}
 use Rattle.indexmap.specs.IndexSet.{insert_all}
 use Rattle.selection.proofs.selection.add_each.Given as goal
 
-abbrev pub invariant-loop-place : goal.invariant-loop-place
-invariant-loop-place l =
-    insert_all nat_eq l.places.keys (drop l.place-index l.more)
-    ≡ insert_all nat_eq l.initial.places.keys l.more
+abbrev pub invariant-loop-index : goal.invariant-loop-index
+invariant-loop-index l =
+    insert_all nat_eq l.indexes.keys (drop l.index-index l.more)
+    ≡ insert_all nat_eq l.initial.indexes.keys l.more

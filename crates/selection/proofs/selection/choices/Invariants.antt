@@ -3,5 +3,5 @@ use Rattle.selection.specs.ChoiceTables.{HasChoices}
 use Rattle.selection.proofs.selection.choices.Given as goal
 
 -- the choices among the nodes so far
-abbrev pub invariant-loop-place : goal.invariant-loop-place
-invariant-loop-place l = HasChoices (take l.place l.nodes) l.table.entries
+abbrev pub invariant-loop-index : goal.invariant-loop-index
+invariant-loop-index l = HasChoices (take l.index l.nodes) l.table.entries

@@ -10,6 +10,7 @@ returns c =
       eqb-false (length c.args.nodes.now) 0
           (sym c.is_empty.ensures ∙ c.if-is_empty.false),
     ) in
-    selected_of_nodes-walked c.args.nodes.now c.in_ok-places.places.keys some c.in_ok-places.ensures
+    selected_of_nodes-walked c.args.nodes.now c.in_ok-indexes.indexes.keys some
+    c.in_ok-indexes.ensures
     ∙ ap (λ modules. Ok (record { modules = modules }))
     (sym (c.of_vec.ensures ∙ c.in_ok-modules.ensures))

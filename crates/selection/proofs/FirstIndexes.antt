@@ -1,21 +1,21 @@
--- The first place of a list at which a test passes.
+-- The first index of a list at which a test passes.
 use Rattle.std.proofs.Common.{◌≡◌, ℕ, suc, ◌+◌, ◌<◌, Bool, true, false, List, [], ◌∷◌, ◌++◌, length}
 use Rattle.std.proofs.Common.{None, Some, if◌then◌else◌, refl, ap, ◌∙◌, arith}
 use Rattle.std.specs.List.{find, position_from, slice_get}
 
--- a place found in front stays
-pub position_from-front : {X : Type 0} (test : X → Bool) (i : ℕ) (xs more : List X) (place : ℕ)
-    → position_from test i xs ≡ Some place
-    → position_from test i (xs ++ more) ≡ Some place
-position_from-front test i [] more place found = absurd (cc)
-position_from-front test i (x ∷ xs) more place found = by (test x)
-    (position_from-front test (i + 1) xs more place) found
+-- an index found in front stays
+pub position_from-front : {X : Type 0} (test : X → Bool) (i : ℕ) (xs more : List X) (index : ℕ)
+    → position_from test i xs ≡ Some index
+    → position_from test i (xs ++ more) ≡ Some index
+position_from-front test i [] more index found = absurd (cc)
+position_from-front test i (x ∷ xs) more index found = by (test x)
+    (position_from-front test (i + 1) xs more index) found
   where
     by : (t : Bool)
-        → (position_from test (i + 1) xs ≡ Some place
-        → position_from test (i + 1) (xs ++ more) ≡ Some place)
-        → (if t then Some i else position_from test (i + 1) xs) ≡ Some place
-        → (if t then Some i else position_from test (i + 1) (xs ++ more)) ≡ Some place
+        → (position_from test (i + 1) xs ≡ Some index
+        → position_from test (i + 1) (xs ++ more) ≡ Some index)
+        → (if t then Some i else position_from test (i + 1) xs) ≡ Some index
+        → (if t then Some i else position_from test (i + 1) (xs ++ more)) ≡ Some index
     by true further there = there
     by false further there = further there
 
@@ -43,7 +43,7 @@ position_from-last test i (x ∷ xs) last none = by (test x)
     by true further there = absurd (cc)
     by false further there = further there ∙ next
 
--- tests that agree on each item find one place
+-- tests that agree on each item find one index
 pub position_from-alike : {X : Type 0} (one other : X → Bool) (i : ℕ) (xs : List X)
     → ((x : X) → one x ≡ other x)
     → position_from one i xs ≡ position_from other i xs
@@ -51,44 +51,44 @@ position_from-alike one other i [] alike = refl
 position_from-alike one other i (x ∷ xs) alike = λ j. if alike x j then Some i
     else position_from-alike one other (i + 1) xs alike j
 
--- a place is among those of the list
-pub position_from-below : {X : Type 0} (test : X → Bool) (i : ℕ) (xs : List X) (place : ℕ)
-    → position_from test i xs ≡ Some place
-    → place < i + length xs
-position_from-below test i [] place found = absurd (cc)
-position_from-below test i (x ∷ xs) place found = by (test x)
-    (position_from-below test (i + 1) xs place) found
+-- an index is among those of the list
+pub position_from-below : {X : Type 0} (test : X → Bool) (i : ℕ) (xs : List X) (index : ℕ)
+    → position_from test i xs ≡ Some index
+    → index < i + length xs
+position_from-below test i [] index found = absurd (cc)
+position_from-below test i (x ∷ xs) index found = by (test x)
+    (position_from-below test (i + 1) xs index) found
   where
     by : (t : Bool)
-        → (position_from test (i + 1) xs ≡ Some place → place < i + 1 + length xs)
-        → (if t then Some i else position_from test (i + 1) xs) ≡ Some place
-        → place < i + suc (length xs)
-    by true further there = let e : i ≡ place = cc in omega arith
-    by false further there = let below : place < i + 1 + length xs = further there in omega arith
+        → (position_from test (i + 1) xs ≡ Some index → index < i + 1 + length xs)
+        → (if t then Some i else position_from test (i + 1) xs) ≡ Some index
+        → index < i + suc (length xs)
+    by true further there = let e : i ≡ index = cc in omega arith
+    by false further there = let below : index < i + 1 + length xs = further there in omega arith
 
--- what stands at the first place
-pub record FoundAt {X : Type 0} (test : X → Bool) (i : ℕ) (xs : List X) (place : ℕ) : Type 0 where
+-- what stands at the first index
+pub record FoundAt {X : Type 0} (test : X → Bool) (i : ℕ) (xs : List X) (index : ℕ) : Type 0 where
   pub offset : ℕ
   pub item : X
-  pub at : place ≡ i + offset
+  pub at : index ≡ i + offset
   pub there : slice_get xs offset ≡ Some item
   pub passes : test item ≡ true
   pub first : find test xs ≡ Some item
 
-pub position_from-item : {X : Type 0} (test : X → Bool) (i : ℕ) (xs : List X) (place : ℕ)
-    → position_from test i xs ≡ Some place
-    → FoundAt test i xs place
-position_from-item test i [] place found = absurd (cc)
-position_from-item {X} test i (x ∷ xs) place found = by (test x) refl
-    (position_from-item test (i + 1) xs place) found
+pub position_from-item : {X : Type 0} (test : X → Bool) (i : ℕ) (xs : List X) (index : ℕ)
+    → position_from test i xs ≡ Some index
+    → FoundAt test i xs index
+position_from-item test i [] index found = absurd (cc)
+position_from-item {X} test i (x ∷ xs) index found = by (test x) refl
+    (position_from-item test (i + 1) xs index) found
   where
     by : (t : Bool)
         → test x ≡ t
-        → (position_from test (i + 1) xs ≡ Some place → FoundAt test (i + 1) xs place)
-        → (if t then Some i else position_from test (i + 1) xs) ≡ Some place
-        → FoundAt test i (x ∷ xs) place
+        → (position_from test (i + 1) xs ≡ Some index → FoundAt test (i + 1) xs index)
+        → (if t then Some i else position_from test (i + 1) xs) ≡ Some index
+        → FoundAt test i (x ∷ xs) index
     by true t further there =
-        let same : i ≡ place = cc in
+        let same : i ≡ index = cc in
         record {
           offset = 0;
           item = x;
@@ -99,8 +99,8 @@ position_from-item {X} test i (x ∷ xs) place found = by (test x) refl
               (λ b. if b then Some x else find test xs) t;
         }
     by false t further there =
-        let rest : FoundAt test (i + 1) xs place = further there in
-        let at : place ≡ i + 1 + rest.offset = rest.at in
+        let rest : FoundAt test (i + 1) xs index = further there in
+        let at : index ≡ i + 1 + rest.offset = rest.at in
         record {
           offset = suc rest.offset;
           item = rest.item;
@@ -111,7 +111,7 @@ position_from-item {X} test i (x ∷ xs) place found = by (test x) refl
               ∙ rest.first;
         }
 
--- a narrower test that passes the first item finds the same place
+-- a narrower test that passes the first item finds the same index
 pub position_from-narrower : {X : Type 0} (one other : X → Bool) (i : ℕ) (xs : List X) (item : X)
     → find other xs ≡ Some item
     → one item ≡ true
