@@ -4,7 +4,9 @@ use bz_base::{EnvTable, Seq, TreePath, Txt};
 use bz_tree::{MemLock, MemSink, MemTree, NoGate};
 use mod_command::modtool;
 use std::alloc::Global;
+use std::sync::Wait;
 use std::test::Fail;
+use std::thread::Threads;
 
 /// A tree with one root file.
 fn rooted<R: AllocGlobal>(rt: &R, text: &str) -> Result<MemTree, Fail> {
@@ -34,12 +36,12 @@ fn laid<R: AllocGlobal>(rt: &R, lines: &str) -> Result<MemTree, Fail> {
 fn lay(alloc: Global, tree: &mut MemTree, line: &str) -> Result<(), Fail> {
     let mut path = String::from_str(alloc, "MODULE.bazel")?;
     let mut text = String::new(alloc);
-    for (place, word) in line.split(' ').enumerate() {
+    for (index, word) in line.split(' ').enumerate() {
         if let Some((name, version)) = word.split_once('@') {
-            if place == 0 {
+            if index == 0 {
                 path = format!(in alloc; "registry/modules/{name}/{version}/MODULE.bazel")?;
             }
-            let directive = if place == 0 { "module" } else { "bazel_dep" };
+            let directive = if index == 0 { "module" } else { "bazel_dep" };
             let call = format!(in alloc;
                 "{directive}(name = \"{name}\", version = \"{version}\")\n"
             )?;
