@@ -62,22 +62,29 @@ fn each_planned_read_fails(rt: HostRuntime) -> Result<(), Fail> {
     Ok(())
 }
 
+/// Places a file of one byte, with room made for it.
+fn is_placed(rt: &HostRuntime, tree: &mut MemTree, text: &str) -> Result<bool, Fail> {
+    let alloc = rt.alloc();
+    let path = path(rt, text)?;
+    let bytes = Seq::of_vec(vec![in alloc; 1u8]?);
+    tree.room(alloc, 1)?;
+    Ok(tree.place(path, bytes).is_ok())
+}
+
 #[test]
 fn a_placed_file_stands_with_its_directories(rt: HostRuntime) -> Result<(), Fail> {
     let alloc = rt.alloc();
     let mut tree = MemTree::new(alloc);
     tree.put(alloc, path(&rt, "d/x")?, b"12")?;
-    tree.room(alloc, 5)?;
     tree.fail_place(2)?;
-    for (place, placed) in [
+    for (place, want) in [
         ("d/e/y", true),
         ("z", false),
         ("z", true),
         ("d", false),
         ("d/x/w", false),
     ] {
-        let bytes = Seq::of_vec(vec![in alloc; 1u8]?);
-        assert_eq!(rt; tree.place(path(&rt, place)?, bytes).is_ok(), placed);
+        assert_eq!(rt; is_placed(&rt, &mut tree, place)?, want);
     }
     for (place, want) in [
         ("", "lists d z"),
