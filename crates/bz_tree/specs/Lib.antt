@@ -1,3 +1,4 @@
+pub mod Failures
 pub mod Keeping
 pub mod MemLocks
 pub mod MemSinks

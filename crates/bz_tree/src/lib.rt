@@ -16,6 +16,7 @@
 #![tactic(auto)]
 
 pub mod dir_tree;
+pub mod failures;
 pub mod faults;
 pub mod gate;
 pub mod lock_keeper;
@@ -28,6 +29,7 @@ pub mod std_sink;
 pub mod tree;
 
 pub use dir_tree::DirTree;
+pub use failures::{Failure, failure_of};
 pub use faults::{Failed, OutsideFault};
 pub use gate::{Gate, NoGate};
 pub use lock_keeper::{Loaded, LockKeeper};

@@ -1,4 +1,3 @@
 pub mod Discoveries
 pub mod DiscoveryLaws
 pub mod KeySets
-pub mod Readings

@@ -1,4 +1,3 @@
 pub mod Discovery
 pub mod DiscoveryLaws
 pub mod KeySets
-pub mod Failures

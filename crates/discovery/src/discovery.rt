@@ -13,10 +13,10 @@ ghost use Rattle.discovery.specs.Discovery.{found_for, graph_walked, means_root,
 ghost use Rattle.discovery.specs.Discovery.{no_module_refusal, node_of, node_with, registry_decl};
 ghost use Rattle.discovery.specs.Discovery.{registry_text, root_alone, root_request, root_key};
 ghost use Rattle.module_file.specs.ModuleFiles.{declared_in};
-ghost use Rattle.discovery.specs.Failures.{ReadsOver, tree_run};
+ghost use Rattle.bz_tree.specs.Failures.{ReadsOver, tree_run};
 ghost use Rattle.bz_walks.specs.Walks.{levels, with_requests, with_node};
 
-use crate::failures::{Failure, failure_of};
+use bz_tree::{Failure, failure_of};
 use crate::reading::read_by;
 use crate::requests::Request;
 use crate::worklist::Worklist;

@@ -15,12 +15,10 @@
 #![tactic(auto)]
 
 pub mod discovery;
-pub mod failures;
 pub mod laws;
 pub mod reading;
 pub mod requests;
 mod worklist;
 
 pub use discovery::discover;
-pub use failures::{Failure, failure_of};
 pub use reading::{read, read_by};

@@ -1,9 +1,9 @@
 //! Reading a tree.
 ghost use Rattle.std.specs.Prelude.{◌≡◌, ◌≤◌, Ok, [], codes};
 ghost use Rattle.discovery.specs.Discovery.{found_by};
-ghost use Rattle.discovery.specs.Failures.{ReadsOver, tree_run};
+ghost use Rattle.bz_tree.specs.Failures.{ReadsOver, tree_run};
 
-use crate::failures::Failure;
+use bz_tree::Failure;
 use bz_base::{Miss, TreePath};
 use bz_tree::{Found, OutsideFault, Tree};
 use std::alloc::Global;

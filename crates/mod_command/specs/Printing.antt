@@ -7,8 +7,8 @@ use Rattle.mod_command.specs.declared.status.Status.TheVariants.{Done, Refused, 
 use Rattle.mod_command.specs.declared.status.Status.TheVariants.{WriteFault, LockStale, OutOfMemory}
 use Rattle.mod_command.specs.declared.status.Status.TheVariants.{LockFault}
 use Rattle.mod_command.specs.declared.status.WhichSink.TheVariants as which
-use Rattle.discovery.specs.declared.failures.Failure.{Failure}
-use Rattle.discovery.specs.declared.failures.Failure.TheVariants as failure
+use Rattle.bz_tree.specs.declared.failures.Failure.{Failure}
+use Rattle.bz_tree.specs.declared.failures.Failure.TheVariants as failure
 
 abbrev pub status_of_failure : Failure → Status
 status_of_failure (failure.Refused refusal) = Refused refusal

@@ -5,14 +5,14 @@ ghost use Rattle.mod_command.specs.RootFiles.{root_of};
 ghost use Rattle.mod_command.specs.Graphs.{graph_text_of, text_of_selected};
 ghost use Rattle.bz_text.specs.Answers.{Gives};
 ghost use Rattle.selection.specs.Selection.{selected_of};
-ghost use Rattle.discovery.specs.Failures.{ReadsOver, tree_run};
+ghost use Rattle.bz_tree.specs.Failures.{ReadsOver, tree_run};
 
 use crate::graph_text::write_graph;
 use crate::root_file::{read_root, root_path};
 use bz_base::{Graph, May, ModuleDecl, Refusal, Txt};
 use bz_tree::Tree;
 use discovery::discovery::discover;
-use discovery::failures::Failure;
+use bz_tree::Failure;
 use discovery::reading::read;
 use selection::selection::select;
 use std::alloc::Global;

@@ -12,7 +12,7 @@ use crate::status::{Status, WhichSink};
 use crate::writing::write_all;
 use bz_base::{Refusal, TreePath, Txt};
 use bz_tree::Sink;
-use discovery::failures::Failure;
+use bz_tree::Failure;
 use std::alloc::Global;
 
 /// Writes a line on `err`, whose failure changes no status.

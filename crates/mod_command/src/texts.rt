@@ -1,13 +1,13 @@
 //! The text of each command.
 ghost use Rattle.std.specs.Prelude.{◌≡◌, ◌≤◌};
 ghost use Rattle.mod_command.specs.Runs.{answer};
-ghost use Rattle.discovery.specs.Failures.{ReadsOver, tree_run};
+ghost use Rattle.bz_tree.specs.Failures.{ReadsOver, tree_run};
 
 use crate::command::Command;
 use crate::graph::graph_text;
 use bz_base::Txt;
 use bz_tree::Tree;
-use discovery::failures::Failure;
+use bz_tree::Failure;
 use std::alloc::Global;
 
 /// The command's text over the tree's files.

@@ -1,6 +1,6 @@
 //! The call that a program makes: from words over a tree, a keeper and two sinks to a status.
 ghost use Rattle.std.specs.Prelude.{◌≡◌, map, string_bytes};
-ghost use Rattle.discovery.specs.Failures.{tree_run};
+ghost use Rattle.bz_tree.specs.Failures.{tree_run};
 ghost use Rattle.mod_command.specs.Runs.{Promised, keeper_run, sink_run};
 
 use crate::command::read_words;

@@ -5,13 +5,13 @@ use Rattle.discovery.proofs.Discoveries.{all_read, request_within, levels-nodes,
 use Rattle.discovery.proofs.Discoveries.{turn_read}
 use Rattle.discovery.proofs.Discoveries.{turn_unread, walked_as, with_requests-longer}
 use Rattle.discovery.proofs.Discoveries.{with_requests-room}
-use Rattle.discovery.proofs.Readings.{GivesOver-missed, ReadsOver-failed, IfSome-from_told}
-use Rattle.discovery.proofs.Readings.{IfSome-told, run_of}
+use Rattle.bz_tree.proofs.Readings.{GivesOver-missed, ReadsOver-failed, IfSome-from_told}
+use Rattle.bz_tree.proofs.Readings.{IfSome-told, run_of}
 use Rattle.bz_walks.proofs.WalkSteps.{walk_on}
 use Rattle.discovery.specs.Discovery.{requests_of, discovery, discovery_rules, found_for}
 use Rattle.discovery.specs.Discovery.{graph_walked}
 use Rattle.discovery.specs.Discovery.{most_keys, node_of}
-use Rattle.discovery.specs.Failures.{Files, GivesOver}
+use Rattle.bz_tree.specs.Failures.{Files, GivesOver}
 use Rattle.bz_walks.specs.Walks.{levels, with_requests}
 use Rattle.discovery.proofs.discovery.walk.Goals as goal
 

@@ -1,10 +1,10 @@
 use Rattle.std.proofs.Common.{◌∷◌, [], Ok, Err, refl, sym, subst, arith}
 use Rattle.discovery.proofs.Discoveries.{walked_with-limited}
-use Rattle.discovery.proofs.Readings.{GivesOver-missed, run_of}
+use Rattle.bz_tree.proofs.Readings.{GivesOver-missed, run_of}
 use Rattle.discovery.specs.Discovery.{requests_of, discovery, discovery_rules, graph_walked}
 use Rattle.discovery.specs.Discovery.{most_keys}
 use Rattle.discovery.specs.Discovery.{root_alone, root_request}
-use Rattle.discovery.specs.Failures.{Files, GivesOver}
+use Rattle.bz_tree.specs.Failures.{Files, GivesOver}
 use Rattle.bz_walks.specs.Walks.{levels, with_requests, with_node}
 use Rattle.discovery.proofs.discovery.walk_from.Goals as goal
 

@@ -1,7 +1,7 @@
 //! Why a command gives no text.
 ghost use Rattle.std.specs.Prelude.{◌≡◌};
-ghost use Rattle.discovery.specs.Failures.{failure_of_miss};
-ghost use Rattle.discovery.specs.declared.failures.Failure.TheVariants.{OutOfMemory};
+ghost use Rattle.bz_tree.specs.Failures.{failure_of_miss};
+ghost use Rattle.bz_tree.specs.declared.failures.Failure.TheVariants.{OutOfMemory};
 
 use bz_base::{Miss, OutOfMemory, Refusal, TreePath};
 use std::alloc::AllocFailed;

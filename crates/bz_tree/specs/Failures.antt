@@ -5,8 +5,8 @@ use Rattle.bz_text.specs.declared.memory.Miss.{Miss}
 use Rattle.bz_text.specs.declared.memory.Miss.TheVariants as miss
 use Rattle.bz_base.specs.declared.refusals.Refusal.{Refusal}
 use Rattle.bz_tree.specs.declared.tree.Found.{Found}
-use Rattle.discovery.specs.declared.failures.Failure.{Failure}
-use Rattle.discovery.specs.declared.failures.Failure.TheVariants.{Refused, ReadFault, OutOfMemory}
+use Rattle.bz_tree.specs.declared.failures.Failure.{Failure}
+use Rattle.bz_tree.specs.declared.failures.Failure.TheVariants.{Refused, ReadFault, OutOfMemory}
 
 abbrev pub failure_of_miss : Miss Refusal → Failure
 failure_of_miss miss.OutOfMemory = OutOfMemory
