@@ -5,7 +5,8 @@ use Rattle.bz_text.specs.Answers.{Gives}
 use Rattle.bz_text.specs.declared.memory.Miss.{Miss}
 use Rattle.bz_text.specs.declared.memory.Miss.TheVariants as miss
 use Rattle.bz_base.specs.declared.refusals.Refusal.{Refusal}
-use Rattle.bz_tree.specs.Failures.{Files, GivesOver, ReadsOver, TreeRun, failure_of_miss}
+use Rattle.bz_tree.specs.Failures.{GivesOver, ReadsOver, TreeRun, failure_of_miss}
+use Rattle.bz_tree.specs.Places.{Files}
 use Rattle.bz_tree.specs.declared.failures.Failure.{Failure}
 use Rattle.bz_tree.specs.declared.failures.Failure.TheVariants.{Refused, ReadFault, OutOfMemory}
 

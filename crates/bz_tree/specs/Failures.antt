@@ -4,17 +4,13 @@ use Rattle.bz_base.specs.Counts.{Rose}
 use Rattle.bz_text.specs.declared.memory.Miss.{Miss}
 use Rattle.bz_text.specs.declared.memory.Miss.TheVariants as miss
 use Rattle.bz_base.specs.declared.refusals.Refusal.{Refusal}
-use Rattle.bz_tree.specs.declared.tree.Found.{Found}
+use Rattle.bz_tree.specs.Places.{Files}
 use Rattle.bz_tree.specs.declared.failures.Failure.{Failure}
 use Rattle.bz_tree.specs.declared.failures.Failure.TheVariants.{Refused, ReadFault, OutOfMemory}
 
 abbrev pub failure_of_miss : Miss Refusal → Failure
 failure_of_miss miss.OutOfMemory = OutOfMemory
 failure_of_miss (miss.Because refusal) = Refused refusal
-
--- what stands at each path
-abbrev pub Files : Type 0
-Files = List ℕ → Found
 
 -- a tree over a call: its files, where it tells them, and its counts of failed reads, each before
 -- and after, and the path at which the last read failed

@@ -1,8 +1,9 @@
 -- A sink in memory, and what its writes answer and leave.
 use Rattle.std.specs.Prelude.{ℕ, ◌-◌, min, Bool, ◌&&◌, not, ◌==◌, if◌then◌else◌, List, ◌++◌, length}
-use Rattle.std.specs.Prelude.{take, Result, Ok, Err}
+use Rattle.std.specs.Prelude.{take, Option, Some, Result, Ok, Err}
 use Rattle.bz_base.specs.Counts.{counted}
 use Rattle.bz_tree.specs.declared.faults.Failed.{Failed}
+use Rattle.bz_tree.specs.Writes.{written_after}
 
 -- what was written, how many bytes the sink still takes, and the count of failed writes
 pub record MemSinkState : Type 0 where
@@ -30,3 +31,7 @@ after_write sink bytes =
           (length bytes) sink.room;
       faults = sink.faults;
     }
+
+-- what was written behind a write with this answer
+abbrev pub after_writing : Result ℕ Failed → List ℕ → MemSinkState → Option (List ℕ)
+after_writing result bytes sink = written_after result bytes (Some sink.written)

@@ -1,10 +1,10 @@
 -- What stands in a tree in memory, and what its calls leave.
 use Rattle.std.specs.Prelude.{ℕ, ◌-◌, ◌||◌, ◌&&◌, ◌==◌, Bool, true, false, if◌then◌else◌, List, []}
-use Rattle.std.specs.Prelude.{◌∷◌, ◌++◌, bytes_eq, is_some, Result, Ok, Err}
+use Rattle.std.specs.Prelude.{◌≡◌, ◌∷◌, ◌++◌, bytes_eq, is_some, max, Option, Some, Result, Ok, Err}
 use Rattle.std.specs.List.{list_any}
 use Rattle.bz_base.specs.Counts.{counted}
-use Rattle.bz_tree.specs.Plans.{Plan, fails_next, no_plan, one_made}
-use Rattle.bz_tree.specs.Places.{after_file, next_name}
+use Rattle.bz_tree.specs.Plans.{Plan, fails_next, no_plan, one_made, with_failing}
+use Rattle.bz_tree.specs.Places.{Files, after_file, next_name}
 use Rattle.bz_tree.specs.declared.tree.Found.{Found}
 use Rattle.bz_tree.specs.declared.tree.Found.TheVariants.{Bytes, Large, Listing, Absent}
 use Rattle.bz_tree.specs.declared.faults.OutsideFault.{OutsideFault}
@@ -48,6 +48,35 @@ empty_tree =
 -- what stands at a path of the tree
 abbrev pub found_in : MemTreeState → List ℕ → Found
 found_in tree path = after_puts tree.puts path Absent
+
+-- what stands at each path, which a tree in memory always tells
+abbrev pub files_of : MemTreeState → Option Files
+files_of tree = Some (found_in tree)
+
+-- the tree whose nth read from now fails too
+abbrev pub with_failing_read : MemTreeState → ℕ → MemTreeState
+with_failing_read tree nth = record tree { reads = with_failing tree.reads nth }
+
+-- the tree whose nth placing from now fails too
+abbrev pub with_failing_place : MemTreeState → ℕ → MemTreeState
+with_failing_place tree nth = record tree { placings = with_failing tree.placings nth }
+
+-- a file by its path and its bytes
+abbrev pub put_of : List ℕ → List ℕ → Put
+put_of path bytes = record { path = path; bytes = bytes }
+
+-- the tree with one more file
+abbrev pub with_put : MemTreeState → Put → MemTreeState
+with_put tree put = record tree { puts = tree.puts ++ put ∷ [] }
+
+-- each path has what it has once the file was put
+abbrev pub HasPut : Put → MemTreeState → MemTreeState → Type 0
+HasPut put before now =
+    (there : List ℕ) → found_in now there ≡ after_put put there (found_in before there)
+
+-- the tree with room for so many files at least
+abbrev pub with_room : MemTreeState → ℕ → MemTreeState
+with_room tree places = record tree { spare = max tree.spare places }
 
 -- the answer of the next read
 abbrev pub read_of : MemTreeState → List ℕ → Result Found OutsideFault

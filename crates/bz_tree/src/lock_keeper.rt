@@ -1,6 +1,7 @@
 //! The keeper of the lockfile.
-ghost use Rattle.std.specs.Prelude.{◌≡◌, ◌≤◌, ℕ, List, Option, IfSome, IfOk, IsErrOf, OnOk, OnErr};
+ghost use Rattle.std.specs.Prelude.{◌≡◌, ◌≤◌, ℕ, List, Option, IfSome, IfOk, OnOk, OnErr};
 ghost use Rattle.bz_base.specs.Counts.{Rose};
+ghost use Rattle.bz_tree.specs.Outcomes.{Fails};
 ghost use Rattle.bz_tree.specs.Keeping.{IsOldOrNew, loaded_of, replaced};
 
 use crate::faults::{Failed, OutsideFault};
@@ -28,15 +29,15 @@ pub trait LockKeeper {
     ghost faults: { Self → ℕ };
 
     fn load(&mut self, alloc: Global) -> Result<Loaded, OutsideFault>
-        ensures told { IfSome (held self.old) (λ lockfile. IfOk result (λ loaded. loaded ≡ loaded_of lockfile)) }
+        ensures told { IfSome (held self.old) (λ file. IfOk result (λ it. it ≡ loaded_of file)) }
         ensures held_kept { held self.new ≡ held self.old }
         ensures count_never_falls { faults self.old ≤ faults self.new }
-        ensures failed_only_counted { IsErrOf result OutsideFault.Failed → Rose (faults self.old) (faults self.new) };
+        ensures counted { Fails result → Rose (faults self.old) (faults self.new) };
 
     /// Puts the bytes in the lockfile's place. A call that failed leaves the old or the new ones.
     fn replace(&mut self, bytes: Seq<u8>) -> Result<(), Failed>
         ensures replaced { OnOk result (held self.new ≡ replaced (held self.old) bytes) }
         ensures old_or_new { OnErr result (IsOldOrNew (held self.old) bytes (held self.new)) }
         ensures count_never_falls { faults self.old ≤ faults self.new }
-        ensures failed_only_counted { OnErr result (Rose (faults self.old) (faults self.new)) };
+        ensures counted { OnErr result (Rose (faults self.old) (faults self.new)) };
 }

@@ -1,10 +1,10 @@
 //! A lockfile in memory.
 ghost use Rattle.std.specs.Prelude.{◌≡◌, ◌≤◌, ◌↔◌, true, false, List, ℕ, Option, Some, None, IfOk};
-ghost use Rattle.std.specs.Prelude.{IfSome, IsOk, IsNone, IsErrOf, OnErr, OnOk};
+ghost use Rattle.std.specs.Prelude.{IfSome, IsOk, IsNone, OnErr, OnOk};
 ghost use Rattle.bz_base.specs.Counts.{Rose};
 ghost use Rattle.bz_tree.specs.Keeping.{IsOldOrNew, loaded_of, replaced};
 ghost use Rattle.bz_tree.specs.MemLocks.{after_load, after_replace, load_of};
-ghost use Rattle.bz_tree.specs.Outcomes.{IsOutcome};
+ghost use Rattle.bz_tree.specs.Outcomes.{Fails, IsOutcome};
 
 use crate::faults::{Failed, OutsideFault};
 use crate::lock_keeper::{LARGEST_LOCKFILE, Loaded, LockKeeper};
@@ -69,10 +69,10 @@ impl LockKeeper for MemLock {
 
     fn load(&mut self, alloc: Global) -> Result<Loaded, OutsideFault>
         ensures told { IfSome (Some self.old.held)
-            (λ lockfile. IfOk result (λ loaded. loaded ≡ loaded_of lockfile)) }
+            (λ file. IfOk result (λ it. it ≡ loaded_of file)) }
         ensures held_kept { Some self.new.held ≡ Some self.old.held }
         ensures count_never_falls { self.old.faults ≤ self.new.faults }
-        ensures failed_only_counted { IsErrOf result OutsideFault.Failed → Rose self.old.faults self.new.faults }
+        ensures counted { Fails result → Rose self.old.faults self.new.faults }
 
         // As planned, and in no other way.
         ensures planned { IsOutcome (load_of self.old) (after_load self.old) self.old result self.new }
@@ -89,7 +89,7 @@ impl LockKeeper for MemLock {
         ensures replaced { OnOk result (Some self.new.held ≡ replaced (Some self.old.held) bytes) }
         ensures old_or_new { OnErr result (IsOldOrNew (Some self.old.held) bytes (Some self.new.held)) }
         ensures count_never_falls { self.old.faults ≤ self.new.faults }
-        ensures failed_only_counted { OnErr result (Rose self.old.faults self.new.faults) }
+        ensures counted { OnErr result (Rose self.old.faults self.new.faults) }
 
         // As planned, and in no other way.
         ensures planned { IsOk result ↔ IsNone self.old.fails_replace }

@@ -1,8 +1,8 @@
 //! A sink in memory.
-ghost use Rattle.std.specs.Prelude.{◌≡◌, ◌≢◌, ◌≤◌, [], Some, Ok, length, IfOk, OnErr};
+ghost use Rattle.std.specs.Prelude.{◌≡◌, ◌≤◌, [], Some, length, IfOk, OnErr};
 ghost use Rattle.bz_base.specs.Counts.{Rose};
-ghost use Rattle.bz_tree.specs.MemSinks.{after_write, write_of};
-ghost use Rattle.bz_tree.specs.Writes.{written_after};
+ghost use Rattle.bz_tree.specs.MemSinks.{after_write, after_writing, write_of};
+ghost use Rattle.bz_tree.specs.Writes.{CountsNothing};
 
 use crate::faults::Failed;
 use crate::sink::Sink;
@@ -58,10 +58,10 @@ impl Sink for MemSink {
 
     fn write(&mut self, bytes: &[u8]) -> Result<usize, Failed>
         ensures within { IfOk result (λ taken. taken ≤ length bytes.now) }
-        ensures appended { Some self.new.written ≡ written_after result bytes.now (Some self.old.written) }
+        ensures appended { Some self.new.written ≡ after_writing result bytes.now self.old }
         ensures count_never_falls { self.old.faults ≤ self.new.faults }
-        ensures failed_only_counted { OnErr result (Rose self.old.faults self.new.faults) }
-        ensures nothing_taken_only_counted { result ≡ Ok 0 → bytes.now ≢ [] → Rose self.old.faults self.new.faults }
+        ensures counted { OnErr result (Rose self.old.faults self.new.faults) }
+        ensures nothing { CountsNothing result bytes.now self.old.faults self.new.faults }
 
         // As much as there is room for.
         ensures exact { result ≡ write_of self.old bytes.now }

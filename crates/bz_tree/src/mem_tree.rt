@@ -1,14 +1,16 @@
 //! A tree in memory.
 ghost use Rattle.std.specs.Prelude.{◌≡◌, ◌≤◌, ◌<◌, ◌+◌, ◌-◌, ◌++◌, ◌↔◌, ◌||◌, [], ◌∷◌, ℕ, List};
-ghost use Rattle.std.specs.Prelude.{Option, Some, IfErr, IfOk, IfSome, IsErr, IsErrOf, IsTrue};
+ghost use Rattle.std.specs.Prelude.{Option, Some, IfErr, IfOk, IfSome, IsErr, IsTrue};
 ghost use Rattle.std.specs.Prelude.{OnErr, OnOk, bytes_eq, is_some, length, max, option_copied};
 ghost use Rattle.std.specs.List.{list_any};
 ghost use Rattle.bz_base.specs.Counts.{Rose, counted};
 ghost use Rattle.bz_tree.specs.MemTrees as spec;
 ghost use Rattle.bz_tree.specs.MemTrees.{after_failed_place, after_place, after_put, after_puts};
-ghost use Rattle.bz_tree.specs.MemTrees.{after_read, empty_tree, found_in, read_of, refuses};
+ghost use Rattle.bz_tree.specs.MemTrees.{HasPut, after_read, empty_tree, files_of, found_in};
+ghost use Rattle.bz_tree.specs.MemTrees.{put_of, read_of, refuses, with_failing_place};
+ghost use Rattle.bz_tree.specs.MemTrees.{with_failing_read, with_put, with_room};
 ghost use Rattle.bz_tree.specs.Plans.{with_failing};
-ghost use Rattle.bz_tree.specs.Outcomes.{IsOutcome};
+ghost use Rattle.bz_tree.specs.Outcomes.{Fails, IsOutcome};
 ghost use Rattle.bz_tree.specs.Places.{IsPlaced, IsPlacedInPart, after_file, file_of, first_name};
 ghost use Rattle.bz_tree.specs.Places.{index_of, next_name, path_behind, stripped, with_name};
 ghost use Rattle.bz_tree.specs.Places.{with_next};
@@ -79,7 +81,7 @@ impl MemTree {
 
     /// Plans that the nth read from now fails too, the next one being the first.
     pub fn fail_read(&mut self, nth: u64) -> Mem<()>
-        ensures planned { OnOk result (self.new ≡ record self.old { reads = with_failing self.old.reads nth }) }
+        ensures planned { OnOk result (self.new ≡ with_failing_read self.old nth) }
         ensures unchanged { OnErr result (self.new ≡ self.old) }
     {
         self.reads.fail(nth)
@@ -87,9 +89,7 @@ impl MemTree {
 
     /// Plans that the nth placing from now fails too, the next one being the first.
     pub fn fail_place(&mut self, nth: u64) -> Mem<()>
-        ensures planned { OnOk result (self.new ≡ record self.old {
-          placings = with_failing self.old.placings nth;
-        }) }
+        ensures planned { OnOk result (self.new ≡ with_failing_place self.old nth) }
         ensures unchanged { OnErr result (self.new ≡ self.old) }
     {
         self.placings.fail(nth)
@@ -97,17 +97,8 @@ impl MemTree {
 
     /// Puts a file, whatever stood at its path, and the directories above it.
     pub fn put(&mut self, alloc: Global, path: TreePath, bytes: &[u8]) -> Mem<()>
-        ensures put { OnOk result (self.new ≡ record self.old {
-          puts = self.old.puts ++ record {
-            path = path;
-            bytes = bytes.now;
-          } ∷ [];
-        }) }
-        ensures stands { OnOk result ((there : List ℕ) → found_in self.new there ≡ after_put (record {
-          path =
-              path;
-          bytes = bytes.now;
-        }) there (found_in self.old there)) }
+        ensures put { OnOk result (self.new ≡ with_put self.old (put_of path bytes.now)) }
+        ensures stands { OnOk result (HasPut (put_of path bytes.now) self.old self.new) }
         ensures unchanged { OnErr result (self.new ≡ self.old) }
     {
         let bytes = copied(alloc, bytes)?;
@@ -116,7 +107,7 @@ impl MemTree {
 
     /// Puts a file and leaves the room that there is.
     fn add(&mut self, put: Put) -> Mem<()>
-        ensures put { OnOk result (self.new ≡ record self.old { puts = self.old.puts ++ put ∷ [] }) }
+        ensures put { OnOk result (self.new ≡ with_put self.old put) }
         ensures unchanged { OnErr result (self.new ≡ self.old) }
     {
         let Some(room) = self.spare.checked_add(1) else {
@@ -147,12 +138,12 @@ impl Tree for MemTree {
     ghost spare = { λ t. t.spare };
 
     fn read(&mut self, alloc: Global, path: &TreePath) -> Result<Found, OutsideFault>
-        ensures told { IfSome (Some (found_in self.old)) (λ look. IfOk result (λ found. found ≡ look path.now)) }
+        ensures told { IfSome (files_of self.old) (λ look. IfOk result (λ it. it ≡ look path.now)) }
         ensures readable { IfOk result IsReadable }
         ensures files_kept { Some (found_in self.new) ≡ Some (found_in self.old) }
         ensures count_never_falls { self.old.faults ≤ self.new.faults }
-        ensures failed_only_counted { IsErrOf result OutsideFault.Failed → Rose self.old.faults self.new.faults }
-        ensures failed_path { self.new.failed ≡ failed_path_after result path.now self.old.failed }
+        ensures counted { Fails result → Rose self.old.faults self.new.faults }
+        ensures path { self.new.failed ≡ failed_path_after result path.now self.old.failed }
         ensures failed_places_kept { self.new.failed_places ≡ self.old.failed_places }
         ensures spare_kept { self.new.spare ≡ self.old.spare }
 
@@ -180,7 +171,7 @@ impl Tree for MemTree {
         ensures failed_places_kept { self.new.failed_places ≡ self.old.failed_places }
 
         // Never less room than there was.
-        ensures exact { OnOk result (self.new ≡ record self.old { spare = max self.old.spare places }) }
+        ensures exact { OnOk result (self.new ≡ with_room self.old places) }
     {
         let places = self.spare.max(places as usize);
         self.puts.reserve(places)?;
@@ -191,19 +182,19 @@ impl Tree for MemTree {
     fn place(&mut self, path: TreePath, bytes: Seq<u8>) -> Result<(), TreePath>
         requires small { length bytes ≤ largest_file }
         requires room { 0 < self.old.spare }
-        ensures placed { OnOk result (IsPlaced (Some (found_in self.old)) path bytes (Some (found_in self.new))) }
-        ensures in_part { OnErr result (IsPlacedInPart (Some (found_in self.old)) path bytes (Some (found_in
+        ensures placed { OnOk result (IsPlaced (files_of self.old) path bytes (files_of self.new)) }
+        ensures part { OnErr result (IsPlacedInPart (files_of self.old) path bytes (Some (found_in
             self.new))) }
         ensures handed_back { IfErr result (λ back. back ≡ path) }
         ensures count_never_falls { self.old.failed_places ≤ self.new.failed_places }
-        ensures failed_only_counted { OnErr result (Rose self.old.failed_places self.new.failed_places) }
+        ensures counted { OnErr result (Rose self.old.failed_places self.new.failed_places) }
         ensures spare_lowered { self.old.spare ≤ self.new.spare + 1 }
         ensures faults_kept { self.new.faults ≡ self.old.faults }
         ensures failed_kept { self.new.failed ≡ self.old.failed }
 
         // As planned or blocked, and in no other way.
         ensures failing { IsErr result ↔ IsTrue (refuses self.old path) }
-        ensures after { OnOk result (self.new ≡ after_place self.old (record { path = path; bytes = bytes })) }
+        ensures after { OnOk result (self.new ≡ after_place self.old (put_of path bytes)) }
         ensures after_failed { OnErr result (self.new ≡ after_failed_place self.old) }
     {
         let refused = self.refuses(path.as_str());

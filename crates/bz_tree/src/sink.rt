@@ -1,7 +1,7 @@
 //! Where text goes.
-ghost use Rattle.std.specs.Prelude.{◌≡◌, ◌≢◌, ◌≤◌, ℕ, List, [], Option, Ok, length, IfOk, OnErr};
+ghost use Rattle.std.specs.Prelude.{◌≡◌, ◌≤◌, ℕ, List, Option, length, IfOk, OnErr};
 ghost use Rattle.bz_base.specs.Counts.{Rose};
-ghost use Rattle.bz_tree.specs.Writes.{written_after};
+ghost use Rattle.bz_tree.specs.Writes.{CountsNothing, written_after};
 
 use crate::faults::Failed;
 
@@ -19,6 +19,6 @@ pub trait Sink {
         ensures within { IfOk result (λ taken. taken ≤ length bytes.now) }
         ensures appended { written self.new ≡ written_after result bytes.now (written self.old) }
         ensures count_never_falls { faults self.old ≤ faults self.new }
-        ensures failed_only_counted { OnErr result (Rose (faults self.old) (faults self.new)) }
-        ensures nothing_taken_only_counted { result ≡ Ok 0 → bytes.now ≢ [] → Rose (faults self.old) (faults self.new) };
+        ensures counted { OnErr result (Rose (faults self.old) (faults self.new)) }
+        ensures nothing { CountsNothing result bytes.now (faults self.old) (faults self.new) };
 }

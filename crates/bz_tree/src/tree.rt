@@ -1,7 +1,8 @@
 //! The tree of files.
 ghost use Rattle.std.specs.Prelude.{◌≡◌, ◌≤◌, ◌<◌, ◌+◌, ℕ, List, Option, IfSome, IfOk, IfErr};
-ghost use Rattle.std.specs.Prelude.{IsErrOf, OnErr, OnOk, length};
+ghost use Rattle.std.specs.Prelude.{OnErr, OnOk, length};
 ghost use Rattle.bz_base.specs.Counts.{Rose};
+ghost use Rattle.bz_tree.specs.Outcomes.{Fails};
 ghost use Rattle.bz_tree.specs.declared.tree.Found.{Found};
 ghost use Rattle.bz_tree.specs.Places.{IsPlaced, IsPlacedInPart};
 ghost use Rattle.bz_tree.specs.Reads.{IsReadable, failed_path_after, largest_file};
@@ -41,12 +42,12 @@ pub trait Tree {
 
     /// What stands at a path.
     fn read(&mut self, alloc: Global, path: &TreePath) -> Result<Found, OutsideFault>
-        ensures told { IfSome (files self.old) (λ look. IfOk result (λ found. found ≡ look path.now)) }
+        ensures told { IfSome (files self.old) (λ look. IfOk result (λ it. it ≡ look path.now)) }
         ensures readable { IfOk result IsReadable }
         ensures files_kept { files self.new ≡ files self.old }
         ensures count_never_falls { faults self.old ≤ faults self.new }
-        ensures failed_only_counted { IsErrOf result OutsideFault.Failed → Rose (faults self.old) (faults self.new) }
-        ensures failed_path { failed self.new ≡ failed_path_after result path.now (failed self.old) }
+        ensures counted { Fails result → Rose (faults self.old) (faults self.new) }
+        ensures path { failed self.new ≡ failed_path_after result path.now (failed self.old) }
         ensures failed_places_kept { failed_places self.new ≡ failed_places self.old }
         ensures spare_kept { spare self.new ≡ spare self.old };
 
@@ -65,10 +66,10 @@ pub trait Tree {
         requires small { length bytes ≤ largest_file }
         requires room { 0 < spare self.old }
         ensures placed { OnOk result (IsPlaced (files self.old) path bytes (files self.new)) }
-        ensures in_part { OnErr result (IsPlacedInPart (files self.old) path bytes (files self.new)) }
+        ensures part { OnErr result (IsPlacedInPart (files self.old) path bytes (files self.new)) }
         ensures handed_back { IfErr result (λ back. back ≡ path) }
         ensures count_never_falls { failed_places self.old ≤ failed_places self.new }
-        ensures failed_only_counted { OnErr result (Rose (failed_places self.old) (failed_places self.new)) }
+        ensures counted { OnErr result (Rose (failed_places self.old) (failed_places self.new)) }
         ensures spare_lowered { spare self.old ≤ spare self.new + 1 }
         ensures faults_kept { faults self.new ≡ faults self.old }
         ensures failed_kept { failed self.new ≡ failed self.old };

@@ -17,7 +17,7 @@ use Rattle.discovery.specs.Discovery.{requests_of, discovery, discovery_rules, f
 use Rattle.discovery.specs.Discovery.{graph_walked}
 use Rattle.discovery.specs.Discovery.{most_keys, node_of, too_many_refusal}
 use Rattle.bz_base.specs.Keys.{same_key}
-use Rattle.bz_tree.specs.Failures.{Files}
+use Rattle.bz_tree.specs.Places.{Files}
 use Rattle.bz_walks.specs.Walks.{Walked, levels, within_limit, walked_with, with_request}
 use Rattle.bz_walks.specs.Walks.{with_requests}
 use Rattle.bz_walks.specs.Walks.{with_node}

@@ -34,7 +34,7 @@ use Rattle.discovery.specs.Discovery.{root_key, root_node}
 use Rattle.discovery.specs.DiscoveryLaws.{HoldsOnNeeds, IsDiscovery, IsFromRegistry}
 use Rattle.bz_base.specs.Keys.{same_key}
 use Rattle.module_file.specs.ModuleFiles.{declared_in}
-use Rattle.bz_tree.specs.Failures.{Files}
+use Rattle.bz_tree.specs.Places.{Files}
 use Rattle.bz_walks.specs.Walks.{Walked, levels, walked_with, with_requests}
 use Rattle.discovery.specs.declared.requests.Request.{Request}
 

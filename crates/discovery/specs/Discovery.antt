@@ -17,7 +17,7 @@ use Rattle.bz_tree.specs.declared.tree.Found.{Found}
 use Rattle.bz_tree.specs.declared.tree.Found.TheVariants.{Bytes, Large, Listing, Absent}
 use Rattle.bz_base.specs.Keys.{key_text, node_text, same_key}
 use Rattle.module_file.specs.ModuleFiles.{declared_in, form_refusal}
-use Rattle.bz_tree.specs.Failures.{Files}
+use Rattle.bz_tree.specs.Places.{Files}
 use Rattle.bz_walks.specs.Walks.{Rules, Walk, Walked, levels, with_node}
 use Rattle.discovery.specs.declared.requests.Request.{Request}
 

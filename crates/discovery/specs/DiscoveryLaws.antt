@@ -8,7 +8,7 @@ use Rattle.bz_base.specs.declared.module_key.Key.{Key}
 use Rattle.bz_tree.specs.declared.tree.Found.TheVariants.{Bytes}
 use Rattle.discovery.specs.Discovery.{declared_as, found_for, node_with, root_key, root_node}
 use Rattle.module_file.specs.ModuleFiles.{declared_in}
-use Rattle.bz_tree.specs.Failures.{Files}
+use Rattle.bz_tree.specs.Places.{Files}
 
 -- what the default registry's file of the node's key declares
 pub record IsFromRegistry (look : Files) (root : Key) (node : GraphNode) : Type 0 where

@@ -8,7 +8,7 @@ use Rattle.discovery.specs.Discovery.{discovered}
 use Rattle.mod_command.specs.GraphTexts.{graph_lines}
 use Rattle.mod_command.specs.RootFiles.{root_of}
 use Rattle.selection.specs.Selection.{selected_of}
-use Rattle.bz_tree.specs.Failures.{Files}
+use Rattle.bz_tree.specs.Places.{Files}
 
 abbrev pub text_of_selected : Graph → Result Selected Refusal → Result (List ℕ) Refusal
 text_of_selected graph (Ok selected) = Ok (graph_lines graph selected)

@@ -7,7 +7,8 @@ use Rattle.bz_tree.specs.Writes.{appended}
 use Rattle.mod_command.specs.Commands.{command_of}
 use Rattle.mod_command.specs.Graphs.{graph_text_of}
 use Rattle.mod_command.specs.Statuses.{done_line, line_of, read_fault_line, refused_line}
-use Rattle.bz_tree.specs.Failures.{Files, TreeRun}
+use Rattle.bz_tree.specs.Failures.{TreeRun}
+use Rattle.bz_tree.specs.Places.{Files}
 use Rattle.mod_command.specs.Written.{IsFrontWritten}
 use Rattle.mod_command.specs.declared.command.Command.{Command}
 use Rattle.mod_command.specs.declared.command.Command.TheVariants.{Graph}

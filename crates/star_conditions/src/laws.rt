@@ -2,7 +2,7 @@
 ghost use Rattle.std.specs.Prelude.{◌≡◌, ℕ, true, List, Ok};
 ghost use Rattle.star_trees.specs.Counted.{StandsThere, VariablesAreCounted, variable_counted};
 ghost use Rattle.star_trees.specs.Mentions.{FunctionsAreMentioned};
-ghost use Rattle.star_trees.specs.Nesting.{NestedWithin};
+ghost use Rattle.star_trees.specs.Nesting.{NestedWithin, deepest};
 ghost use Rattle.star_trees.specs.Orders.{HasNoRefusedForm};
 ghost use Rattle.star_trees.specs.Indexes.{IndexesAreThere};
 ghost use Rattle.star_trees.specs.WellFormed.{WellFormed};
@@ -48,11 +48,11 @@ pub fn counted_variables_stand_there()
 
 /// No tree of a file that is spelled and resolved, and no function of it, is nested deeper than the
 /// grammar allows.
-pub fn trees_are_nested_at_most_128_deep()
+pub fn no_tree_is_too_deep()
     ensures { (dialect : Dialect) (text : List ℕ) (tree : BareFile) (file : File)
         → Spelled text tree
         → resolved dialect tree.body ≡ Ok file
-        → NestedWithin 128 file }
+        → NestedWithin deepest file }
 {}
 
 /// A file that is spelled and resolved has no form that the grammar refuses: arguments and

@@ -9,11 +9,11 @@ ghost use Rattle.star_expressions.specs.Reads.{Reads};
 
 use crate::cursor::{Cursor, NoTree};
 use crate::grammar::{Grammar, only};
-use crate::held::Held;
 use bz_text::May;
 use sqlite_items::Items;
 use star_grammar::{BareClause, BareExpr, Level, Sign};
 use std::alloc::Global;
+use star_trees::Held;
 
 fn begins_clause(symbols: &Cursor<'_>) -> bool
     ensures { result ≡ (sees s.For symbols.now.rest.now || sees s.If symbols.now.rest.now) }

@@ -7,17 +7,14 @@ ghost use Rattle.star_expressions.specs.Nests.{Nests};
 ghost use Rattle.star_expressions.specs.Reads.{Finds, Reads};
 
 use crate::cursor::{Cursor, NoTree};
-use crate::held::Held;
 use bz_text::{May, Mem, Miss};
 use sqlite_items::{Boxed, Items};
 use star_grammar::{BareExpr, Level};
+use star_trees::{DEEPEST, Held};
 use std::alloc::Global;
 
 /// An expression and its depth, held.
 pub type HeldTree = Held<(BareExpr, usize)>;
-
-/// How deep a tree may be.
-const DEEPEST: usize = 128;
 
 /// `nested` reads an expression in which so many constructs nest at most.
 #[derive(Clone, Copy)]

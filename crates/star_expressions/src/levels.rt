@@ -12,11 +12,10 @@ ghost use Rattle.star_expressions.specs.Reads.{Finds, Reads};
 use crate::arg_orders::are_params;
 use crate::cursor::{Cursor, NoTree};
 use crate::grammar::{Grammar, HeldTree, boxed, checked, deep};
-use crate::held::Held;
 use bz_text::May;
 use sqlite_items::Boxed;
 use star_grammar::{BareExpr, Level, Sign};
-use star_trees::{BinOp, UnOp};
+use star_trees::{BinOp, Held, UnOp};
 use std::alloc::Global;
 
 /// How many levels of operators bind tighter than a comparison.

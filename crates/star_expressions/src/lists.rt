@@ -12,12 +12,12 @@ ghost use Rattle.star_expressions.specs.Reads.{Finds, Reads};
 
 use crate::cursor::{Cursor, NoTree};
 use crate::grammar::{Grammar, checked, deep, only};
-use crate::held::Held;
 use crate::targets::is_target;
 use bz_text::May;
 use sqlite_items::{Boxed, Items};
 use star_grammar::{BareExpr, Level, Sign};
 use std::alloc::Global;
+use star_trees::Held;
 
 /// One expression, or a tuple of several.
 pub(crate) fn joined(mut items: Items<BareExpr>, depth: usize) -> May<(BareExpr, usize), NoTree>

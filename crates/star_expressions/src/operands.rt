@@ -10,12 +10,12 @@ ghost use Rattle.star_expressions.specs.Reads.{Finds, Reads};
 
 use crate::cursor::{Cursor, NoTree};
 use crate::grammar::{Grammar, HeldTree, boxed, deep, only};
-use crate::held::Held;
 use crate::lists::bracketed;
 use bz_text::{May, Miss};
 use sqlite_items::Items;
 use star_grammar::{BareExpr, BareName, BarePair, Level, Sign, SymbolKind};
 use std::alloc::Global;
+use star_trees::Held;
 
 impl<F: Fn(Global, &mut Cursor<'_>, usize, Level) -> May<(BareExpr, usize), NoTree>> Grammar<F> {
     fn atom_of(&self, line: u64, kind: &SymbolKind) -> May<(BareExpr, usize), NoTree>

@@ -14,11 +14,11 @@ ghost use Rattle.star_expressions.specs.Reads.{Finds, Reads};
 use crate::arg_orders::are_args;
 use crate::cursor::{Cursor, NoTree};
 use crate::grammar::{Grammar, HeldTree, boxed, checked, deep};
-use crate::held::Held;
 use bz_text::May;
 use sqlite_items::Boxed;
 use star_grammar::{BareExpr, Level, Sign};
 use std::alloc::Global;
+use star_trees::Held;
 
 fn begins_suffix(symbols: &Cursor<'_>) -> bool
     ensures { result ≡ (sees s.Dot symbols.now.rest.now || (sees s.LeftRound symbols.now.rest.now || sees

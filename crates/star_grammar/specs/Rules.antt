@@ -6,6 +6,7 @@ use Rattle.star_grammar.specs.declared.symbols.Sign.{Sign}
 use Rattle.star_grammar.specs.declared.symbols.Sign.TheVariants as s
 use Rattle.star_grammar.specs.declared.symbols.Symbol.{Symbol}
 use Rattle.star_grammar.specs.declared.symbols.SymbolKind.TheVariants as kind
+use Rattle.star_trees.specs.Nesting.{deepest}
 
 abbrev pub Rule : Type 0 → Type 1
 Rule A = List Symbol → A → List Symbol → Type 0
@@ -29,9 +30,9 @@ front_line (symbol ∷ _) = symbol.line
 abbrev pub Deep : Type 0 → Type 0
 Deep A = A × ℕ
 
--- A construct counts one more than its deepest part, and 128 at most: nothing deeper is a tree.
+-- A construct counts one more than its deepest part, and `deepest` at most: nothing deeper is a tree.
 unfoldable pub deep : {A : Type 0} → A → ℕ → Option (Deep A)
-deep tree parts = if nat_lt parts 128 then Some (tree, parts + 1) else None
+deep tree parts = if nat_lt parts deepest then Some (tree, parts + 1) else None
 
 -- first {turn}, where a turn makes more of what was read before it
 pub data Repeated {A : Type 0} (first : Rule A) (turn : A → Rule A) : List Symbol

@@ -23,6 +23,7 @@ use Rattle.star_grammar.specs.Readers.{behind, sees_word, front_of, skip, expect
 use Rattle.star_grammar.specs.Readers.{closed, turns, one, joins, more}
 use Rattle.star_grammar.specs.Rules.{Deep, deep, front_line}
 use Rattle.star_grammar.specs.Statements.{Statements, on_line}
+use Rattle.star_trees.specs.Nesting.{deepest}
 use Rattle.star_trees.specs.Surroundings.{at_top, in_branch, in_loop, in_function}
 
 -- ---- loads
@@ -206,7 +207,7 @@ stands (suc nesting) what inside = of (reads nesting) (stands nesting) what insi
 
 unfoldable pub file_part : Reader Statements
 file_part = λ i. if sees s.Newline i then Some (([], 0), behind i)
-    else stands 128 part.Statement at_top i
+    else stands deepest part.Statement at_top i
 
 abbrev pub has_more : List Symbol → Bool
 has_more [] = false

@@ -21,6 +21,7 @@ use Rattle.star_grammar.specs.Operators.{augmented}
 use Rattle.star_grammar.specs.Orders.{are_params, is_place, is_target}
 use Rattle.star_grammar.specs.Rules.{Rule, sign, word, string, front_line, Deep, deep, Repeated}
 use Rattle.star_grammar.specs.Rules.{Nothing, Adds, Joins, After, Series, Closed, Listed}
+use Rattle.star_trees.specs.Nesting.{deepest}
 use Rattle.star_trees.specs.Surroundings.{at_top, in_branch, in_function, in_loop}
 
 abbrev pub Statements : Type 0
@@ -185,7 +186,7 @@ Stands (suc nesting) what inside i a r = Of (Spells nesting) (Stands nesting) wh
 -- Statement | newline
 pub data FilePart : List Symbol → Statements → List Symbol → Type 0 where
   statement : {i r : List Symbol} {body : Statements}
-      → Stands 128 part.Statement at_top i body r
+      → Stands deepest part.Statement at_top i body r
       → FilePart i body r
   newline : {r : List Symbol} {l : ℕ} → FilePart (sign s.Newline l ∷ r) ([], 0) r
 

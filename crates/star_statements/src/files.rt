@@ -11,10 +11,8 @@ use bz_text::{May, Miss};
 use sqlite_items::Items;
 use star_expressions::{Cursor, NoTree};
 use star_grammar::{BareFile, BareStmt, Inside, Part, Sign};
+use star_trees::DEEPEST;
 use std::alloc::Global;
-
-/// How many constructs may nest in a file's statements.
-const DEEPEST: usize = 128;
 
 /// Statements in which so many constructs nest at most.
 fn nested_statements(

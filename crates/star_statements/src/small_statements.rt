@@ -16,10 +16,10 @@ use crate::loads::load;
 use bz_text::May;
 use sqlite_items::Items;
 use star_expressions::{
-    Cursor, Held, HeldTree, NoTree, checked, deep, is_place, is_target, only, test_list,
+    Cursor, HeldTree, NoTree, checked, deep, is_place, is_target, only, test_list,
 };
 use star_grammar::{BareExpr, BareStmt, BareStmtKind, Inside, Sign};
-use star_trees::BinOp;
+use star_trees::{BinOp, Held};
 use std::alloc::Global;
 
 #[tactic(auto, unfolding(star_grammar::specs::StatementReading::returned_value))]

@@ -19,10 +19,11 @@ use crate::small_statements::simple;
 use bz_text::{May, Txt};
 use sqlite_items::Items;
 use star_expressions::{
-    Cursor, Held, HeldTree, NoTree, are_params, checked, deep, expression, listed_params, only,
+    Cursor, HeldTree, NoTree, are_params, checked, deep, expression, listed_params, only,
     target_list, test_list,
 };
 use star_grammar::{BareName, BareParam, BareStmt, BareStmtKind, Inside, Level, Part, Sign};
+use star_trees::Held;
 use std::alloc::Global;
 
 /// `nested` reads statements in which so many constructs nest at most.

@@ -21,6 +21,10 @@ use Rattle.star_trees.specs.declared.trees.Stmt.{Stmt}
 use Rattle.star_trees.specs.declared.trees.StmtKind.{StmtKind}
 use Rattle.star_trees.specs.declared.trees.Target.{Target}
 
+-- how many constructs may be open at one place of a text
+abbrev pub deepest : ℕ
+deepest = 128
+
 -- an argument is as deep as its value
 abbrev pub arg_depth : Arg-F ℕ ℕ ℕ ℕ ℕ → ℕ
 arg_depth (Arg-F.Positional value) = value

@@ -10,11 +10,16 @@
 #![tactic(auto)]
 
 pub mod files;
+pub mod held;
 pub mod inside;
 pub mod loads;
 pub mod trees;
 
 pub use files::{File, FnBody, FnCode, Param};
+pub use held::Held;
 pub use inside::Inside;
 pub use loads::{Load, LoadName};
 pub use trees::{Arg, BinOp, Clause, Expr, ExprPair, Stmt, StmtKind, Target, UnOp, Var};
+
+/// How many constructs may be open at one place of a text.
+pub const DEEPEST: usize = 128;

@@ -11,7 +11,8 @@ use Rattle.bz_walks.proofs.WalkSteps.{walk_on}
 use Rattle.discovery.specs.Discovery.{requests_of, discovery, discovery_rules, found_for}
 use Rattle.discovery.specs.Discovery.{graph_walked}
 use Rattle.discovery.specs.Discovery.{most_keys, node_of}
-use Rattle.bz_tree.specs.Failures.{Files, GivesOver}
+use Rattle.bz_tree.specs.Failures.{GivesOver}
+use Rattle.bz_tree.specs.Places.{Files}
 use Rattle.bz_walks.specs.Walks.{levels, with_requests}
 use Rattle.discovery.proofs.discovery.walk.Goals as goal
 

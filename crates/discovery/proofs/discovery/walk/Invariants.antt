@@ -1,6 +1,6 @@
 use Rattle.std.proofs.Common.{◌≡◌, ◌≤◌, ◌-◌, Ok, Some, length}
 use Rattle.discovery.specs.Discovery.{discovery, most_keys}
-use Rattle.bz_tree.specs.Failures.{Files}
+use Rattle.bz_tree.specs.Places.{Files}
 use Rattle.bz_walks.specs.Walks.{levels}
 use Rattle.bz_walks.proofs.WalkSteps.{walk_on}
 use Rattle.discovery.proofs.discovery.walk.Given as goal

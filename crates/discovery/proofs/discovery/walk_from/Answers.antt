@@ -4,7 +4,8 @@ use Rattle.bz_tree.proofs.Readings.{GivesOver-missed, run_of}
 use Rattle.discovery.specs.Discovery.{requests_of, discovery, discovery_rules, graph_walked}
 use Rattle.discovery.specs.Discovery.{most_keys}
 use Rattle.discovery.specs.Discovery.{root_alone, root_request}
-use Rattle.bz_tree.specs.Failures.{Files, GivesOver}
+use Rattle.bz_tree.specs.Failures.{GivesOver}
+use Rattle.bz_tree.specs.Places.{Files}
 use Rattle.bz_walks.specs.Walks.{levels, with_requests, with_node}
 use Rattle.discovery.proofs.discovery.walk_from.Goals as goal
 
