@@ -16,12 +16,11 @@ ghost use Rattle.module_file.specs.ModuleFiles.{declared_in};
 ghost use Rattle.bz_tree.specs.Failures.{ReadsOver, tree_run};
 ghost use Rattle.bz_walks.specs.Walks.{levels, with_requests, with_node};
 
-use bz_tree::{Failure, failure_of};
 use crate::reading::read_by;
 use crate::requests::Request;
 use crate::worklist::Worklist;
 use bz_base::{Code, Dep, Graph, GraphNode, Key, May, Mem, Miss, ModuleDecl, Refusal, Seq, Txt};
-use bz_tree::{Found, Tree};
+use bz_tree::{Failure, Found, Tree, failure_of};
 use module_file::declaring::{form, read_module};
 use std::alloc::Global;
 

@@ -3,9 +3,8 @@ ghost use Rattle.std.specs.Prelude.{◌≡◌, ◌≤◌, Ok, [], codes};
 ghost use Rattle.discovery.specs.Discovery.{found_by};
 ghost use Rattle.bz_tree.specs.Failures.{ReadsOver, tree_run};
 
-use bz_tree::Failure;
 use bz_base::{Miss, TreePath};
-use bz_tree::{Found, OutsideFault, Tree};
+use bz_tree::{Failure, Found, OutsideFault, Tree};
 use std::alloc::Global;
 
 /// What stands at a path. A read that fails gives the path back.

@@ -11,8 +11,7 @@ use crate::report::{done_text, read_fault_text, refused_text};
 use crate::status::{Status, WhichSink};
 use crate::writing::write_all;
 use bz_base::{Refusal, TreePath, Txt};
-use bz_tree::Sink;
-use bz_tree::Failure;
+use bz_tree::{Failure, Sink};
 use std::alloc::Global;
 
 /// Writes a line on `err`, whose failure changes no status.

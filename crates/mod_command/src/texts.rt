@@ -6,8 +6,7 @@ ghost use Rattle.bz_tree.specs.Failures.{ReadsOver, tree_run};
 use crate::command::Command;
 use crate::graph::graph_text;
 use bz_base::Txt;
-use bz_tree::Tree;
-use bz_tree::Failure;
+use bz_tree::{Failure, Tree};
 use std::alloc::Global;
 
 /// The command's text over the tree's files.

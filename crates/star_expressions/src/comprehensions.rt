@@ -12,8 +12,8 @@ use crate::grammar::{Grammar, only};
 use bz_text::May;
 use sqlite_items::Items;
 use star_grammar::{BareClause, BareExpr, Level, Sign};
-use std::alloc::Global;
 use star_trees::Held;
+use std::alloc::Global;
 
 fn begins_clause(symbols: &Cursor<'_>) -> bool
     ensures { result ≡ (sees s.For symbols.now.rest.now || sees s.If symbols.now.rest.now) }

@@ -16,8 +16,8 @@ use crate::targets::is_target;
 use bz_text::May;
 use sqlite_items::{Boxed, Items};
 use star_grammar::{BareExpr, Level, Sign};
-use std::alloc::Global;
 use star_trees::Held;
+use std::alloc::Global;
 
 /// One expression, or a tuple of several.
 pub(crate) fn joined(mut items: Items<BareExpr>, depth: usize) -> May<(BareExpr, usize), NoTree>

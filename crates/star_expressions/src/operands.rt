@@ -14,8 +14,8 @@ use crate::lists::bracketed;
 use bz_text::{May, Miss};
 use sqlite_items::Items;
 use star_grammar::{BareExpr, BareName, BarePair, Level, Sign, SymbolKind};
-use std::alloc::Global;
 use star_trees::Held;
+use std::alloc::Global;
 
 impl<F: Fn(Global, &mut Cursor<'_>, usize, Level) -> May<(BareExpr, usize), NoTree>> Grammar<F> {
     fn atom_of(&self, line: u64, kind: &SymbolKind) -> May<(BareExpr, usize), NoTree>

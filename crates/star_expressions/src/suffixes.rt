@@ -17,8 +17,8 @@ use crate::grammar::{Grammar, HeldTree, boxed, checked, deep};
 use bz_text::May;
 use sqlite_items::Boxed;
 use star_grammar::{BareExpr, Level, Sign};
-use std::alloc::Global;
 use star_trees::Held;
+use std::alloc::Global;
 
 fn begins_suffix(symbols: &Cursor<'_>) -> bool
     ensures { result ≡ (sees s.Dot symbols.now.rest.now || (sees s.LeftRound symbols.now.rest.now || sees
