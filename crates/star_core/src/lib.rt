@@ -11,12 +11,22 @@
 //! To add a kind of failure open `src/faults.rt`.
 #![tactic(auto)]
 
+pub mod cells;
+pub mod dict;
 pub mod faults;
+pub mod heap;
+pub mod scopes;
+pub mod stack;
 pub mod values;
 
+pub use cells::{Cell, Function};
+pub use dict::{Dict, Pair};
 pub use faults::Fault;
+pub use heap::{Heap, HeapCell};
+pub use scopes::{Scope, Scopes};
+pub use stack::Stack;
 pub use star_trees::{
     Arg, BinOp, Clause, Expr, ExprPair, File, FnBody, FnCode, Load, LoadName, Param, Stmt,
     StmtKind, Target, UnOp, Var,
 };
-pub use values::{NamedVal, Val};
+pub use values::{Args, NamedVal, Val};

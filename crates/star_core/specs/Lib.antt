@@ -1,0 +1,5 @@
+pub mod Dicts
+pub mod Heaps
+pub mod Scopes
+pub mod Sizes
+pub mod Stacks
