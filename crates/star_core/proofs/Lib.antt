@@ -1,3 +1,4 @@
 mod Entries
+mod KnownAnswers
 mod Slots
 mod Tops

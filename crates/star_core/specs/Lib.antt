@@ -1,5 +1,10 @@
 pub mod Dicts
 pub mod Heaps
+pub mod Hosts
+pub mod MemHostLaws
+pub mod MemHosts
+pub mod Questions
 pub mod Scopes
 pub mod Sizes
 pub mod Stacks
+pub mod Tables

@@ -11,18 +11,28 @@
 //! To add a kind of failure open `src/faults.rt`.
 #![tactic(auto)]
 
+pub mod answers;
 pub mod cells;
 pub mod dict;
+pub mod ext_values;
 pub mod faults;
 pub mod heap;
+pub mod host;
+pub mod mem_host;
+pub mod questions;
 pub mod scopes;
 pub mod stack;
 pub mod values;
 
+pub use answers::Answers;
 pub use cells::{Cell, Function};
 pub use dict::{Dict, Pair};
+pub use ext_values::{ExtValue, Input, InputKind, Meta, MetaList};
 pub use faults::Fault;
 pub use heap::{Heap, HeapCell};
+pub use host::{Declare, Host, HostStep};
+pub use mem_host::MemHost;
+pub use questions::{Answer, Question};
 pub use scopes::{Scope, Scopes};
 pub use stack::Stack;
 pub use star_trees::{
