@@ -1,6 +1,9 @@
+pub mod Conditions
+pub mod Contents
 pub mod Dicts
 pub mod Heaps
 pub mod Hosts
+pub mod LibraryNames
 pub mod MemHostLaws
 pub mod MemHosts
 pub mod Questions
