@@ -1,12 +1,12 @@
 -- Dictionaries, kept under owned texts.
-use Rattle.std.proofs.Common.{◌≡◌, ℕ, Bool, true, false, List, [], ◌∷◌, Some, None, String, string_bytes}
-use Rattle.std.proofs.Common.{if◌then◌else◌, refl, ap, ◌∙◌, option_map}
+use Rattle.std.proofs.Common.{◌≡◌, ℕ, Bool, true, false, List, [], ◌∷◌, Some, String, string_bytes}
+use Rattle.std.proofs.Common.{if◌then◌else◌, refl, ap}
 use Rattle.std.specs.Str.{bytes_eq}
 use Rattle.std.specs.String.{string_eq}
 use Rattle.std.specs.Map.{lookup, remove_entry}
 use Rattle.std.specs.declared.alloc.Global.{Global}
 use Rattle.indexmap.specs.IndexMap.{insert_entry}
-use Rattle.star_core.specs.Dicts.{Entry, entries_of, entry_of, entry_under, with_entry, without_entry}
+use Rattle.star_core.specs.Dicts.{entries_of, entry_of, entry_under, with_entry, without_entry}
 use Rattle.star_core.specs.declared.dict.Pair.{Pair}
 
 pub lookup-entry_of : (content : List ℕ) (kept : List (String Global × Pair))

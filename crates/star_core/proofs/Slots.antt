@@ -1,5 +1,5 @@
 -- A variable is set at its place, or behind the others.
-use Rattle.std.proofs.Common.{◌≡◌, ℕ, zero, suc, ◌+◌, ◌-◌, ◌<◌, ◌≤◌, List, [], ◌∷◌, ◌++◌, length, Option, Some, None, slice_set, replicate, ap, refl, arith}
+use Rattle.std.proofs.Common.{◌≡◌, ℕ, zero, suc, ◌+◌, ◌<◌, List, [], ◌∷◌, ◌++◌, length, Option, Some, None, slice_set, replicate, ap, refl, arith}
 use Rattle.star_core.specs.declared.values.Val.{Val}
 use Rattle.star_core.specs.Scopes.{with_slot}
 

@@ -1,7 +1,7 @@
 -- What an evaluation may rest on of its heap: that each cell is good, over its files and how many
 -- scopes of variables there are.
 use Rattle.std.specs.Prelude.{◌≡◌, ◌≢◌, ◌<◌, ◌≤◌, ℕ, suc, All, AllPairs, IsTrue, List, [], ◌∷◌}
-use Rattle.std.specs.Prelude.{length, Option, Some, Ok, ℤ, pos, slice_get, ⊤}
+use Rattle.std.specs.Prelude.{length, Some, Ok, pos, slice_get, ⊤}
 use Rattle.bz_base.specs.Labels.{IsLabel}
 use Rattle.bz_base.specs.Names.{is_canonical}
 use Rattle.star_core.specs.Contents.{key_content}
@@ -14,7 +14,6 @@ use Rattle.star_core.specs.declared.cells.Cell.{Cell}
 use Rattle.star_core.specs.declared.cells.Cell.TheVariants as cell
 use Rattle.star_core.specs.declared.cells.Function.{Function}
 use Rattle.star_core.specs.declared.values.NamedVal.{NamedVal}
-use Rattle.star_core.specs.declared.values.Val.{Val}
 use Rattle.star_trees.specs.WellFormed.{WellFormed}
 use Rattle.star_trees.specs.declared.files.File.{File}
 use Rattle.star_trees.specs.declared.files.FnCode.{FnCode}

@@ -122,18 +122,18 @@ with_content number held content heap =
       cells = slice_set heap.cells number (record { cell = content; walks = held.walks });
     }
 
--- the number of a list or a dictionary that may be changed, and an empty one of its kind: frozen
--- comes before iterating
-abbrev pub content_changeable : ℕ → ℕ → Option Cell → HeapState → Result (ℕ × Cell) Fault
-content_changeable number walks None heap = Err fault.Kind
-content_changeable number walks (Some empty) heap =
-    if is_frozen heap number then Err fault.Frozen
-    else (if walks == 0 then Ok (number, empty) else Err fault.Iterating)
+-- the number of a list or a dictionary and an empty one of its kind, where it isn't frozen and no
+-- walk of it is open: frozen comes before iterating
+abbrev pub changeable_by : ℕ → Option Cell → Bool → Bool → Result (ℕ × Cell) Fault
+changeable_by number None frozen at_rest = Err fault.Kind
+changeable_by number (Some empty) frozen at_rest =
+    if frozen then Err fault.Frozen
+    else (if at_rest then Ok (number, empty) else Err fault.Iterating)
 
 abbrev pub cell_changeable : ℕ → Option HeapCell → HeapState → Result (ℕ × Cell) Fault
 cell_changeable number None heap = Err fault.Kind
 cell_changeable number (Some held) heap =
-    content_changeable number held.walks (emptied held.cell) heap
+    changeable_by number (emptied held.cell) (is_frozen heap number) (held.walks == 0)
 
 abbrev pub number_changeable : Option ℕ → HeapState → Result (ℕ × Cell) Fault
 number_changeable None heap = Err fault.Kind

@@ -1,5 +1,5 @@
 -- What a host is: objects outside an evaluation, whose calls and fields may ask questions.
-use Rattle.std.specs.Prelude.{◌≡◌, ◌<◌, ℕ, List, take, length, None, Option, Result, Ok, Err, ⊤}
+use Rattle.std.specs.Prelude.{◌≡◌, ◌<◌, ℕ, List, take, length, None, Result, Ok, Err, ⊤}
 use Rattle.bz_base.specs.declared.refusals.Refusal.{Refusal}
 use Rattle.bz_text.specs.declared.memory.OutOfMemory.{OutOfMemory}
 use Rattle.star_core.specs.Heaps.{HeapState}

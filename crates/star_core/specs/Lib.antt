@@ -1,6 +1,7 @@
 pub mod Conditions
 pub mod Contents
 pub mod Dicts
+pub mod HeapLaws
 pub mod Heaps
 pub mod Hosts
 pub mod LibraryNames

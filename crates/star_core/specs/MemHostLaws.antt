@@ -1,6 +1,6 @@
 -- The host in memory keeps the laws of a host.
-use Rattle.std.proofs.Common.{◌≡◌, ℕ, ◌+◌, ◌<◌, Bool, true, false, List, [], ◌∷◌, ◌++◌, length, take}
-use Rattle.std.proofs.Common.{Option, Some, None, Result, Ok, Err, refl, ap, sym, subst, codes}
+use Rattle.std.proofs.Common.{◌≡◌, ℕ, ◌<◌, Bool, true, false, length}
+use Rattle.std.proofs.Common.{Option, Some, None, Ok, Err, refl, ap, sym, subst, codes}
 use Rattle.std.proofs.Common.{if◌then◌else◌}
 use Rattle.std.proofs.Math.Seq.{take-append_seam, take-length}
 use Rattle.std.proofs.Math.Numerals.{lt-add-one}
@@ -8,7 +8,7 @@ use Rattle.std.proofs.lemmas.List.{length-append}
 use Rattle.std.specs.Str.{bytes_eq}
 use Rattle.star_core.specs.Heaps.{HeapState, Change, made, made_with, sum_for}
 use Rattle.star_core.specs.Hosts.{AsksAnew, Field, HostCall, IsLawful, IsNoQuestion, KeepsCells}
-use Rattle.star_core.specs.Hosts.{Method, Reply, ReturnsWell}
+use Rattle.star_core.specs.Hosts.{Method, ReturnsWell}
 use Rattle.star_core.specs.MemHosts.{counted_call, given_text, mem_meaning, system_name, told_name}
 use Rattle.star_core.specs.Sizes.{size_of}
 use Rattle.star_core.specs.Tables.{Table, Within, answer_in}
@@ -26,10 +26,10 @@ made_returns_well : (new : Cell) (sum : Option ℕ) (heap : HeapState) (host : M
     → ReturnsWell heap (given_text (made_with new sum heap) host)
 made_returns_well new None heap host = tt
 made_returns_well new (Some sum) heap host = (
-      record { cells = take-append_seam heap.cells _; frozen = refl },
-      subst (λ n. length heap.cells < n) (sym (length-append heap.cells _))
+  record { cells = take-append_seam heap.cells _; frozen = refl },
+  subst (λ n. length heap.cells < n) (sym (length-append heap.cells _))
       (lt-add-one (length heap.cells)),
-    )
+)
 
 told_returns_well : (told : Option Answer) (host : MemHost) (heap : HeapState)
     → ReturnsWell heap (told_name told host heap)

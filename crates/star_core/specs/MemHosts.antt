@@ -1,5 +1,5 @@
 -- The host in memory: what its calls do.
-use Rattle.std.specs.Prelude.{ℕ, ◌+◌, min, List, Option, Some, None, Result, Ok, Err, pos, codes}
+use Rattle.std.specs.Prelude.{ℕ, ◌+◌, min, Option, Some, None, Ok, Err, pos, codes}
 use Rattle.std.specs.Prelude.{bytes_eq, if◌then◌else◌}
 use Rattle.bz_base.specs.Refusals.{refusal_of}
 use Rattle.bz_base.specs.declared.refusals.Code.TheVariants.{Size}

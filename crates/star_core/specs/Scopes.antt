@@ -1,7 +1,7 @@
 -- The store of variables: scopes by number, each with the number of the scope round it, so that the
 -- number of the innermost names the whole chain and closures share variables. The Starlark
 -- specification, "Name binding and variables".
-use Rattle.std.specs.Prelude.{ℕ, zero, suc, List, [], ◌∷◌, ◌++◌, length, Option, Some, None}
+use Rattle.std.specs.Prelude.{ℕ, zero, suc, List, [], ◌∷◌, ◌++◌, Option, Some, None}
 use Rattle.std.specs.Prelude.{option_and_then, slice_get, slice_set}
 use Rattle.star_core.specs.declared.scopes.Scope.{Scope}
 use Rattle.star_core.specs.declared.values.Val.{Val}

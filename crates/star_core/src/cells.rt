@@ -23,29 +23,16 @@ pub enum Cell {
     List(Seq<Val>),
     Tuple(Seq<Val>),
     Dict(Dict),
-    Range {
-        first: i64,
-        stop: i64,
-        step: i64,
-    },
+    Range { first: i64, stop: i64, step: i64 },
     Function(Function),
     /// A function of the library, by its name.
     Builtin(Txt),
     /// A method of a value.
-    Bound {
-        receiver: Val,
-        method: Txt,
-    },
+    Bound { receiver: Val, method: Txt },
     Struct(Seq<NamedVal>),
     Label(Label),
     /// A path below a repository's root.
-    Path {
-        repo: Txt,
-        segments: Seq<Txt>,
-    },
+    Path { repo: Txt, segments: Seq<Txt> },
     /// An object of the host, by its type's name.
-    Host {
-        kind: Txt,
-        fields: Seq<NamedVal>,
-    },
+    Host { kind: Txt, fields: Seq<NamedVal> },
 }

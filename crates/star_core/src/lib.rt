@@ -18,6 +18,7 @@ pub mod ext_values;
 pub mod faults;
 pub mod heap;
 pub mod host;
+pub mod laws;
 pub mod mem_host;
 pub mod questions;
 pub mod scopes;

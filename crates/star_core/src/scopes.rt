@@ -70,7 +70,12 @@ impl Scopes {
     pub fn get(&self, number: usize, slot: u32) -> Option<Val>
         ensures { result ≡ variable_at self.now number slot }
     {
-        *self.scopes.get(number)?.slots.as_slice().get(slot as usize)?
+        *self
+            .scopes
+            .get(number)?
+            .slots
+            .as_slice()
+            .get(slot as usize)?
     }
 
     /// Sets a variable.

@@ -1,4 +1,4 @@
-use Rattle.std.proofs.Common.{arith, length, ◌<◌, ◌≡◌, ◌+◌, ◌-◌}
+use Rattle.std.proofs.Common.{arith}
 use Rattle.star_core.proofs.Slots.{put_there, put_behind}
 use Rattle.star_core.proofs.scopes.set_slot.Goals as goal
 

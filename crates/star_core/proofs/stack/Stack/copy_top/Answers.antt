@@ -1,4 +1,4 @@
-use Rattle.std.proofs.Common.{arith, List, length, reverse, ◌-◌, ◌≡◌, ◌+◌, ◌<◌, ap, ◌∙◌, drop, take, refl, ℕ}
+use Rattle.std.proofs.Common.{arith, List, length, ◌-◌, ◌≡◌, ap, ◌∙◌, drop, take, refl, ℕ}
 use Rattle.std.proofs.lemmas.List.{length-reverse, take_all, length-drop}
 use Rattle.star_core.proofs.Tops.{taken_split, taken_none}
 use Rattle.star_core.proofs.stack.Stack.copy_top.Goals as goal

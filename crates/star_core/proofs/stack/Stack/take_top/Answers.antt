@@ -1,4 +1,4 @@
-use Rattle.std.proofs.Common.{arith, length, reverse, ◌-◌, ◌≡◌, ◌+◌, ◌<◌}
+use Rattle.std.proofs.Common.{arith, ◌-◌}
 use Rattle.std.proofs.lemmas.List.{length-reverse}
 use Rattle.star_core.proofs.Tops.{taken_split, taken_none}
 use Rattle.star_core.proofs.stack.Stack.take_top.Goals as goal
