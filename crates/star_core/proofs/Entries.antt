@@ -42,7 +42,8 @@ entries_of-remove_entry content (e ∷ es) =
     by : (t : Bool)
         → entries_of (remove_entry (λ k. bytes_eq content (string_bytes k)) es)
         ≡ without_entry content (entries_of es)
-        → entries_of (if t then es else e ∷ remove_entry (λ k. bytes_eq content (string_bytes k)) es)
+        → entries_of (if t then es
+        else e ∷ remove_entry (λ k. bytes_eq content (string_bytes k)) es)
         ≡ (if t then entries_of es else entry_under e ∷ without_entry content (entries_of es))
     by true further = refl
     by false further = ap (λ l. entry_under e ∷ l) further

@@ -9,7 +9,8 @@ use Rattle.std.proofs.lemmas.List.{length-append}
 use Rattle.bz_base.specs.Counts.{counted}
 use Rattle.star_core.specs.Conditions.{IsCellOf, IsEntryOf, IsHeapOf, Surroundings}
 use Rattle.star_core.specs.HeapLaws.{Becomes, Extends, FitsAt, HasContent, HasValue}
-use Rattle.star_core.specs.Heaps.{HeapState, all_frozen, cell_changeable, cell_number, changeable_by}
+use Rattle.star_core.specs.Heaps.{HeapState, all_frozen, cell_changeable, cell_number}
+use Rattle.star_core.specs.Heaps.{changeable_by}
 use Rattle.star_core.specs.Heaps.{content_swapped, emptied, given, is_frozen}
 use Rattle.star_core.specs.Heaps.{literal_made, made, made_with, next_value, number_put_back}
 use Rattle.star_core.specs.Heaps.{number_with_walks, put_back, restarted, sum_for, swapped}
@@ -247,7 +248,8 @@ cell_of round heap (one ∷ cells) zero held all there =
     subst (λ it. IsCellOf round heap it.cell) same
     (All-head (λ it. IsCellOf round heap it.cell) one cells all)
 cell_of round heap (one ∷ cells) (suc number) held all there =
-    cell_of round heap cells number held (All-tail (λ it. IsCellOf round heap it.cell) one cells all)
+    cell_of round heap cells number held
+    (All-tail (λ it. IsCellOf round heap it.cell) one cells all)
     there
 
 -- walks
@@ -311,7 +313,10 @@ empty_good round heap (cell.List items) empty is =
 empty_good round heap (cell.Dict entries) empty is =
     let same : cell.Dict [] ≡ empty = cc in
     subst (IsCellOf round heap) same
-    (record { each = All-nil (IsEntryOf heap); differ = λ i j d less below. absurd (omega (arith, below)) })
+    (record {
+      each = All-nil (IsEntryOf heap);
+      differ = λ i j d less below. absurd (omega (arith, below));
+    })
 empty_good round heap (cell.Text text) empty is = absurd (cc)
 empty_good round heap (cell.Tuple items) empty is = absurd (cc)
 empty_good round heap (cell.Range first stop step) empty is = absurd (cc)

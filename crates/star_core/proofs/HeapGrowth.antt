@@ -111,7 +111,8 @@ value_keeps less more before now (val.Bool true) each grows content is = is
 value_keeps less more before now (val.Bool false) each grows content is = is
 value_keeps less more before now (val.Int number) each grows content is = is
 value_keeps less more before now (val.Cell number) each grows content is =
-    held_keeps less more before now number (slice_get before.cells number) each grows refl content is
+    held_keeps less more before now number (slice_get before.cells number) each grows refl content
+    is
 
 pub content_keeps : (depth : ℕ) (before now : HeapState) (value : Val)
     → Extends before now

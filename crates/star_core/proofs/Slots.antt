@@ -1,20 +1,28 @@
--- A variable is set at its place, or behind the others.
-use Rattle.std.proofs.Common.{◌≡◌, ℕ, zero, suc, ◌+◌, ◌<◌, List, [], ◌∷◌, ◌++◌, length, Option, Some, None, slice_set, replicate, ap, refl, arith}
+-- A variable is set at its slot, or behind the others.
+use Rattle.std.proofs.Common.{◌≡◌, ℕ, zero, suc, ◌+◌, ◌<◌, List, [], ◌∷◌, ◌++◌, length, Option}
+use Rattle.std.proofs.Common.{Some, None, slice_set, replicate, ap, refl, arith}
 use Rattle.star_core.specs.declared.values.Val.{Val}
 use Rattle.star_core.specs.Scopes.{with_slot}
 
-pub put_there : (slots : List (Option Val)) (slot : ℕ) (v : Val) → slot < length slots → slice_set slots slot (Some v) ≡ with_slot slots slot v
-put_there [] slot v short = absurd (omega (arith, short))
-put_there (x ∷ slots) zero v short = refl
-put_there (x ∷ slots) (suc slot) v short = ap (λ l. x ∷ l) (put_there slots slot v (omega (arith, short)))
+pub set_there : (slots : List (Option Val)) (slot : ℕ) (value : Val)
+    → slot < length slots
+    → slice_set slots slot (Some value) ≡ with_slot slots slot value
+set_there [] slot value short = absurd (omega (arith, short))
+set_there (first ∷ slots) zero value short = refl
+set_there (first ∷ slots) (suc slot) value short =
+    ap (λ l. first ∷ l) (set_there slots slot value (omega (arith, short)))
 
-put_pad : (n : ℕ) (v : Val) → replicate n None ++ Some v ∷ [] ≡ with_slot [] n v
-put_pad zero v = refl
-put_pad (suc n) v = ap (λ l. None ∷ l) (put_pad n v)
+set_behind_none : (count : ℕ) (value : Val)
+    → replicate count None ++ Some value ∷ [] ≡ with_slot [] count value
+set_behind_none zero value = refl
+set_behind_none (suc count) value = ap (λ l. None ∷ l) (set_behind_none count value)
 
-pub put_behind : (slots : List (Option Val)) (n slot : ℕ) (v : Val) → slot ≡ length slots + n → (slots ++ replicate n None) ++ Some v ∷ [] ≡ with_slot slots slot v
-put_behind [] n slot v is =
-    let e : slot ≡ n = omega (arith, is) in
-    rw e (put_pad n v)
-put_behind (x ∷ slots) n zero v is = absurd (omega (arith, is))
-put_behind (x ∷ slots) n (suc slot) v is = ap (λ l. x ∷ l) (put_behind slots n slot v (omega (arith, is)))
+pub set_behind : (slots : List (Option Val)) (count slot : ℕ) (value : Val)
+    → slot ≡ length slots + count
+    → (slots ++ replicate count None) ++ Some value ∷ [] ≡ with_slot slots slot value
+set_behind [] count slot value is =
+    let same : slot ≡ count = omega (arith, is) in
+    rw same (set_behind_none count value)
+set_behind (first ∷ slots) count zero value is = absurd (omega (arith, is))
+set_behind (first ∷ slots) count (suc slot) value is =
+    ap (λ l. first ∷ l) (set_behind slots count slot value (omega (arith, is)))

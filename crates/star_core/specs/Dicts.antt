@@ -1,5 +1,5 @@
--- Dictionaries as lists of entries: the Starlark specification, "Dictionaries". An entry has the text
--- of its key's content, so that two entries have one key exactly where these texts are one.
+-- Dictionaries as lists of entries: the Starlark specification, "Dictionaries". An entry has the
+-- text of its key's content: two entries have one key exactly where these texts are one.
 use Rattle.std.specs.Prelude.{◌≢◌, ℕ, List, [], ◌∷◌, Option, Some, None, String, option_map, map}
 use Rattle.std.specs.Prelude.{string_bytes, bytes_eq, slice_get, if◌then◌else◌, AllPairs}
 use Rattle.std.specs.declared.alloc.Global.{Global}

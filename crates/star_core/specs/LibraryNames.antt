@@ -1,6 +1,7 @@
--- The names of the library: its functions, and the methods of each type. The Starlark specification,
--- "Built-in constants and functions" and "Built-in methods".
-use Rattle.std.specs.Prelude.{ℕ, Bool, true, false, bytes_eq, codes, List, [], ◌∷◌, Option, Some, None}
+-- The names of the library: its functions, and the methods of each type. The Starlark
+-- specification, "Built-in constants and functions" and "Built-in methods".
+use Rattle.std.specs.Prelude.{ℕ, Bool, true, false, bytes_eq, codes, List, [], ◌∷◌, Option}
+use Rattle.std.specs.Prelude.{Some, None}
 use Rattle.std.specs.List.{list_any}
 use Rattle.star_core.specs.declared.cells.Cell.{Cell}
 use Rattle.star_core.specs.declared.cells.Cell.TheVariants as cell

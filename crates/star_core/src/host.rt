@@ -34,7 +34,8 @@ pub trait Host {
         args: &Args,
         answers: &Answers,
     ) -> Mem<HostStep>
-        ensures { Replied (meaning self.old heap.old (Method object method.now args.now) answers.now)
+        ensures { Replied
+            (meaning self.old heap.old (Method object method.now args.now) answers.now)
             result self.old self.new heap.old heap.new };
 
     /// Looks at a field of an object.

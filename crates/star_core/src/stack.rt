@@ -1,5 +1,6 @@
 //! A stack that contracts see as a list whose head is on top.
-ghost use Rattle.std.specs.Prelude.{◌≡◌, [], ◌∷◌, IfOk, List, MatchOption, None, OnErr, OnOk, Some, length, reverse};
+ghost use Rattle.std.specs.Prelude.{◌≡◌, [], ◌∷◌, IfOk, List, MatchOption, None, OnErr, OnOk};
+ghost use Rattle.std.specs.Prelude.{Some, length, reverse};
 ghost use Rattle.star_core.specs.Stacks.{taken};
 
 use bz_text::Mem;
