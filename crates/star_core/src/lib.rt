@@ -1,17 +1,17 @@
 //! The values of Starlark's evaluation: small ones, the heap of cells, the store of variables, the
 //! table of answers, and the hosts that an evaluation calls.
 //!
-//! In come cells and values; out go changed heaps, or a kind of fault with the heap as it was. A heap
-//! counts what its cells cost, so that no file makes it grow without bound.
+//! In come cells and values; out go changed heaps, or a kind of fault with the heap as it was. A
+//! heap counts what its cells cost, so that no file makes it grow without bound.
 //! Read `specs/Heaps.antt` first (what each call changes), then `Sizes` (what a cell costs) and
 //! `Hosts` (what a host may do, and its laws). `Conditions` says what a good heap is.
 //! A dictionary is kept under the text of each key's content (`Contents`), a table of answers under
 //! its questions (`Tables`); contracts see both as lists. `MemHost` is a host for trying callers.
 //! Laws (`laws.rt`): which calls keep a heap good, and what of it stays a value.
-//! Limits: 64 MiB for all cells of a run, 16 MiB a text, 1,048,576 entries a container, 4,294,967,296
-//! cells; integers have 64 bits.
-//! Source: the Starlark specification, "Data types", "Freezing a value", "Name binding". The types of
-//! trees come from `star_trees` and are given on. To add a kind of cell open `src/cells.rt`.
+//! Limits: 64 MiB for all cells of a run, 16 MiB a text, 1,048,576 entries a container,
+//! 4,294,967,296 cells; integers have 64 bits.
+//! Source: the Starlark specification, "Data types", "Freezing a value", "Name binding". The types
+//! of trees come from `star_trees` and are given on. To add a kind of cell open `src/cells.rt`.
 #![tactic(auto)]
 
 pub mod answers;
