@@ -23,7 +23,7 @@ entry_of content [] = None
 entry_of content (entry ∷ entries) =
     if bytes_eq content entry.content then Some entry.pair else entry_of content entries
 
--- a key that stands keeps its place and its entry, with the new value, and a new one goes last
+-- a pair takes the place of the one that stands under its content, and goes last where none does
 abbrev pub with_entry : List ℕ → Pair → List Entry → List Entry
 with_entry content pair [] = record { content = content; pair = pair } ∷ []
 with_entry content pair (entry ∷ entries) =

@@ -1,6 +1,7 @@
 //! Dictionaries: the Starlark specification, "Dictionaries".
 ghost use Rattle.std.specs.Prelude.{◌≡◌, [], OnErr, OnOk, length, option_copied};
-ghost use Rattle.star_core.specs.Dicts.{entries_of, entry_of, pair_at, with_entry, without_entry};
+ghost use Rattle.star_core.specs.Dicts.{KeysDiffer, entries_of, entry_of, pair_at, with_entry};
+ghost use Rattle.star_core.specs.Dicts.{without_entry};
 
 use crate::values::Val;
 use bz_text::{Mem, Txt};
@@ -42,7 +43,8 @@ impl Dict {
     }
 
     pub fn len(&self) -> usize
-        ensures { result ≡ length self.now }
+        ensures count { result ≡ length self.now }
+        ensures differ { KeysDiffer self.now }
     {
         self.pairs.len()
     }
@@ -61,8 +63,8 @@ impl Dict {
         Some(self.pairs.get_index(index)?.1)
     }
 
-    /// Gives a content's key its value: a key that stands keeps its place and its first spelling,
-    /// a new one goes last.
+    /// Puts a pair under its key's content: where that stands the pair takes the place of the one
+    /// that stood there, and else it goes last.
     pub fn put(&mut self, content: Txt, pair: Pair) -> Mem<()>
         ensures ok { OnOk result (self.new ≡ with_entry content pair self.old) }
         ensures unchanged { OnErr result (self.new ≡ self.old) }

@@ -1,40 +1,74 @@
-//! The heap: sizes, what is frozen or walked, and what a refusal leaves.
-use bz_text::{Miss, Seq, Txt};
+//! The heap: sizes, what is frozen or walked, and what a refusal leaves. A cell that is given is
+//! dropped in a function of its own.
+use bz_text::{May, Miss, Seq, Txt};
 use star_core::{Cell, Dict, Fault, Heap, Pair, Val};
 use std::alloc::Global;
 use std::process::Abort;
 use std::test::Fail;
 
-fn list_of(alloc: Global, count: usize) -> Result<Seq<Val>, Fail> {
-    let mut items = Vec::new(alloc);
-    for _ in 0..count {
-        items.push(Val::None)?;
+/// A cell is made, or the fault that refuses it.
+fn made(heap: &mut Heap, cell: Cell) -> Result<Val, Fault> {
+    match heap.make(cell) {
+        Ok(val) => Ok(val),
+        Err(Miss::Because(fault)) => Err(fault),
+        Err(Miss::OutOfMemory) => Err(Fault::Unbound),
     }
-    Ok(Seq::of_vec(items))
 }
 
-fn empty_list(alloc: Global) -> Cell {
-    Cell::List(Seq::new(alloc))
+fn empty_list(heap: &mut Heap, alloc: Global) -> Result<Val, Fault> {
+    made(heap, Cell::List(Seq::new(alloc)))
+}
+
+/// Why a content isn't taken.
+fn refusal_of_taking(heap: &mut Heap, val: Val) -> Option<Fault> {
+    match heap.take(&val) {
+        Ok(_) => None,
+        Err(fault) => Some(fault),
+    }
+}
+
+/// Why an empty list with so much added isn't put back.
+fn refusal_of_giving(heap: &mut Heap, alloc: Global, val: Val, added: u64) -> Option<Fault> {
+    match heap.give(&val, Cell::List(Seq::new(alloc)), added) {
+        Ok(()) => None,
+        Err(fault) => Some(fault),
+    }
 }
 
 #[test]
 fn a_cell_is_what_was_made(rt: HostRuntime) -> Result<(), Fail> {
     let alloc = rt.alloc();
     let mut heap = Heap::new(alloc);
-    let text = heap.make(Cell::Text(Txt::of(alloc, "a")?))?;
-    let literal = heap.literal(Txt::of(alloc, "b")?)?;
-    let range = heap.make(Cell::Range {
+    let range = Cell::Range {
         first: 0,
         stop: 3,
         step: 1,
-    })?;
-    assert_eq!(rt; text, Val::Cell(0));
-    assert_eq!(rt; literal, Val::Cell(1));
-    assert!(rt; matches!(heap.cell(&range), Some(Cell::Range { stop: 3, .. })));
-    assert!(rt; matches!(heap.cell(&literal), Some(Cell::Text(_))));
+    };
+    assert_eq!(rt; made(&mut heap, range), Ok(Val::Cell(0)));
+    assert!(rt; matches!(heap.cell(&Val::Cell(0)), Some(Cell::Range { stop: 3, .. })));
     assert!(rt; heap.cell(&Val::Int(0)).is_none());
     assert!(rt; heap.cell(&Val::Bool(true)).is_none());
     assert!(rt; heap.cell(&Val::None).is_none());
+    Ok(())
+}
+
+fn literal(heap: &mut Heap, text: Txt) -> May<Val, Fault> {
+    heap.literal(text)
+}
+
+#[test]
+fn a_literal_costs_nothing(rt: HostRuntime) -> Result<(), Fail> {
+    let alloc = rt.alloc();
+    let text = Txt::of(alloc, "b")?;
+    let mut heap = Heap::new(alloc);
+    let list = empty_list(&mut heap, alloc);
+    assert_eq!(rt; list, Ok(Val::Cell(0)));
+    assert_eq!(rt;
+        refusal_of_giving(&mut heap, alloc, Val::Cell(0), 67_108_848),
+        None
+    );
+    assert!(rt; matches!(literal(&mut heap, text), Ok(Val::Cell(1))));
+    assert_eq!(rt; empty_list(&mut heap, alloc), Err(Fault::Size));
     Ok(())
 }
 
@@ -42,76 +76,116 @@ fn a_cell_is_what_was_made(rt: HostRuntime) -> Result<(), Fail> {
 fn what_is_frozen_or_walked_stays(rt: HostRuntime) -> Result<(), Fail> {
     let alloc = rt.alloc();
     let mut heap = Heap::new(alloc);
-    let old = heap.make(empty_list(alloc))?;
+    let old = Val::Cell(0);
+    let list = Val::Cell(1);
+    assert_eq!(rt; empty_list(&mut heap, alloc), Ok(old));
     heap.freeze();
-    let list = heap.make(empty_list(alloc))?;
-    let tuple = heap.make(Cell::Tuple(Seq::new(alloc)))?;
+    assert_eq!(rt; empty_list(&mut heap, alloc), Ok(list));
     heap.walk(&old);
-    assert!(rt; matches!(heap.take(&old), Err(Fault::Frozen)));
     heap.walk(&list);
-    assert!(rt; matches!(heap.take(&list), Err(Fault::Iterating)));
+    assert_eq!(rt; refusal_of_taking(&mut heap, old), Some(Fault::Frozen));
+    assert_eq!(rt; refusal_of_taking(&mut heap, list), Some(Fault::Iterating));
     heap.unwalk(&list);
-    assert!(rt; heap.take(&list).is_ok());
-    assert!(rt; matches!(heap.take(&tuple), Err(Fault::Kind)));
-    assert!(rt; matches!(heap.take(&Val::None), Err(Fault::Kind)));
+    assert_eq!(rt; refusal_of_taking(&mut heap, list), None);
+    assert_eq!(rt; refusal_of_taking(&mut heap, Val::None), Some(Fault::Kind));
     Ok(())
 }
 
 #[test]
-fn a_content_comes_back_with_its_size(rt: HostRuntime) -> Result<(), Fail> {
+fn sixty_four_mebibytes_and_a_byte_more(rt: HostRuntime) -> Result<(), Fail> {
     let alloc = rt.alloc();
     let mut heap = Heap::new(alloc);
-    let list = heap.make(empty_list(alloc))?;
-    let Ok(Cell::List(_)) = heap.take(&list) else {
-        return Err("taken".into());
-    };
-    // 64 MiB, of which making the list took 16 bytes.
-    let given = heap.give(&list, Cell::List(list_of(alloc, 2)?), 67_108_848);
-    assert!(rt; given.is_ok());
-    assert!(rt; matches!(heap.make(empty_list(alloc)), Err(Miss::Because(Fault::Size))));
-    assert!(rt; matches!(heap.give(&list, empty_list(alloc), 1), Err(Fault::Size)));
-    assert!(rt; matches!(heap.cell(&list), Some(Cell::List(items)) if items.items().is_empty()));
+    let list = Val::Cell(0);
+    assert_eq!(rt; empty_list(&mut heap, alloc), Ok(list));
+    // Making the list took 16 bytes of the 67,108,864.
+    assert_eq!(rt;
+        refusal_of_giving(&mut heap, alloc, list, 67_108_849),
+        Some(Fault::Size)
+    );
+    assert_eq!(rt; refusal_of_giving(&mut heap, alloc, list, 67_108_848), None);
+    assert_eq!(rt; empty_list(&mut heap, alloc), Err(Fault::Size));
     heap.restart();
-    assert!(rt; heap.make(empty_list(alloc)).is_ok());
+    assert_eq!(rt; empty_list(&mut heap, alloc), Ok(Val::Cell(1)));
     Ok(())
 }
 
-#[test]
-fn the_largest_containers_and_texts(rt: HostRuntime) -> Result<(), Fail> {
-    let alloc = rt.alloc();
+/// A tuple of so many values is made, or the fault that refuses it.
+fn made_tuple(alloc: Global, count: usize) -> Result<Result<Val, Fault>, Fail> {
+    let mut items = Vec::new(alloc);
+    for _ in 0..count {
+        items.push(Val::None)?;
+    }
     let mut heap = Heap::new(alloc);
-    assert!(rt; heap.make(Cell::Tuple(list_of(alloc, 1_048_576)?)).is_ok());
-    let larger = heap.make(Cell::Tuple(list_of(alloc, 1_048_577)?));
-    assert!(rt; matches!(larger, Err(Miss::Because(Fault::Size))));
+    Ok(made(&mut heap, Cell::Tuple(Seq::of_vec(items))))
+}
+
+#[test]
+fn the_largest_containers(rt: HostRuntime) -> Result<(), Fail> {
+    let alloc = rt.alloc();
+    assert_eq!(rt; made_tuple(alloc, 1_048_576)?, Ok(Val::Cell(0)));
+    assert_eq!(rt; made_tuple(alloc, 1_048_577)?, Err(Fault::Size));
+    Ok(())
+}
+
+/// A text of 2^24 bytes and the rest is made, or the fault that refuses it.
+fn made_text(alloc: Global, rest: &str) -> Result<Result<Val, Fault>, Fail> {
     let mut text = String::from_str(alloc, "x")?;
     for _ in 0..24 {
         let copy = text.clone()?;
         text.push_str(copy.as_str())?;
     }
-    let mut longer = text.clone()?;
-    longer.push_str("x")?;
-    assert_eq!(rt; text.len(), 16_777_216);
-    assert!(rt; heap.make(Cell::Text(Txt::of_string(text))).is_ok());
-    let longer = heap.make(Cell::Text(Txt::of_string(longer)));
-    assert!(rt; matches!(longer, Err(Miss::Because(Fault::Size))));
+    text.push_str(rest)?;
+    let mut heap = Heap::new(alloc);
+    Ok(made(&mut heap, Cell::Text(Txt::of_string(text))))
+}
+
+#[test]
+fn the_largest_texts(rt: HostRuntime) -> Result<(), Fail> {
+    let alloc = rt.alloc();
+    assert_eq!(rt; made_text(alloc, "")?, Ok(Val::Cell(0)));
+    assert_eq!(rt; made_text(alloc, "x")?, Err(Fault::Size));
     Ok(())
+}
+
+fn put(dict: &mut Dict, content: Txt, key: i64, value: i64) -> Result<(), Fail> {
+    let pair = Pair {
+        key: Val::Int(key),
+        value: Val::Int(value),
+    };
+    Ok(dict.put(content, pair)?)
+}
+
+fn two_keys(alloc: Global) -> Result<Dict, Fail> {
+    let mut dict = Dict::new(alloc);
+    for (content, key, value) in [("b", 1, 10), ("a", 2, 20), ("b", 3, 30)] {
+        put(&mut dict, Txt::of(alloc, content)?, key, value)?;
+    }
+    Ok(dict)
 }
 
 #[test]
 fn keys_keep_their_places(rt: HostRuntime) -> Result<(), Fail> {
     let alloc = rt.alloc();
-    let mut dict = Dict::new(alloc);
-    for (content, key, value) in [("b", 1, 10), ("a", 2, 20), ("b", 3, 30)] {
-        let pair = Pair {
-            key: Val::Int(key),
-            value: Val::Int(value),
-        };
-        dict.put(Txt::of(alloc, content)?, pair)?;
-    }
+    let mut dict = two_keys(alloc)?;
     assert_eq!(rt; dict.len(), 2);
-    let first = dict.at(0).ok_or("first")?;
-    assert_eq!(rt; first.value, Val::Int(30));
-    assert_eq!(rt; dict.get("a").ok_or("a")?.key, Val::Int(2));
+    assert!(rt;
+        matches!(
+            dict.at(0),
+            Some(Pair {
+                value: Val::Int(30),
+                ..
+            })
+        )
+    );
+    assert!(rt;
+        matches!(
+            dict.get("a"),
+            Some(Pair {
+                key: Val::Int(2),
+                ..
+            })
+        )
+    );
     assert!(rt; dict.remove("b").is_some());
     assert!(rt; dict.get("b").is_none());
     assert!(rt; dict.at(1).is_none());
