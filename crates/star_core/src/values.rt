@@ -1,5 +1,5 @@
-//! Values: what isn't small lies in a cell of the heap and is named by its place there.
-use bz_text::Txt;
+//! Values: what isn't small lies in a cell of the heap and is named by its number there.
+use bz_text::{Seq, Txt};
 
 #[derive(Clone, Copy, Debug, PartialEq, Eq)]
 pub enum Val {
@@ -14,4 +14,11 @@ pub enum Val {
 pub struct NamedVal {
     pub name: Txt,
     pub val: Val,
+}
+
+/// The arguments of a call: those by position, and behind them those by name.
+#[derive(Debug, Drop)]
+pub struct Args {
+    pub positional: Seq<Val>,
+    pub named: Seq<NamedVal>,
 }

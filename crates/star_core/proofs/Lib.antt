@@ -1,0 +1,6 @@
+mod Entries
+mod GoodHeaps
+mod HeapGrowth
+mod KnownAnswers
+mod Slots
+mod Tops

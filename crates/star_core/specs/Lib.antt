@@ -1,0 +1,14 @@
+pub mod Conditions
+pub mod Contents
+pub mod Dicts
+pub mod HeapLaws
+pub mod Heaps
+pub mod Hosts
+pub mod LibraryNames
+pub mod MemHostLaws
+pub mod MemHosts
+pub mod Questions
+pub mod Scopes
+pub mod Sizes
+pub mod Stacks
+pub mod Tables
