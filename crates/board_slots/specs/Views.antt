@@ -1,5 +1,8 @@
 -- How contracts see a job on a board.
-use Rattle.std.specs.Prelude.{ℕ, ◌≡◌, ◌<◌, ◌+◌, List, [], ◌∷◌, Option, None, Some, option_map, length}
+use Rattle.std.specs.Prelude.{ℕ, ◌≡◌, ◌<◌, List, [], ◌∷◌, Option, None, Some, option_map, length}
+use Rattle.std.specs.Prelude.{Result, Ok, Err, slice_get, slice_set}
+use Rattle.std.specs.Borrow.{Bor}
+use Rattle.std.specs.declared.sync.Arc.{Arc}
 use Rattle.std.specs.Arc.{arc_value}
 use Rattle.bz_base.specs.declared.refusals.Refusal.{Refusal}
 use Rattle.bz_base.specs.Counts.{last_count}
@@ -97,3 +100,24 @@ abbrev pub handed : {J V : Type 0} → List (Option (Gift V)) → List (Boards.S
 handed [] slots = slots
 handed (gift ∷ gifts) [] = []
 handed (gift ∷ gifts) (slot ∷ slots) = handed_slot gift slot ∷ handed gifts slots
+
+-- the number of the file's need for which a job waits
+abbrev pub file_need_of : {A V R : Type 0} → Boards.State A V R → Option ℕ
+file_need_of (Boards.OnFile answers need) = Some need
+file_need_of (Boards.OnJob answers need place) = None
+file_need_of (Boards.Queued answers) = None
+file_need_of (Boards.Claimed worker count) = None
+file_need_of (Boards.Valued v) = None
+file_need_of (Boards.RefusedWith r) = None
+
+-- what a job that is done came to, behind the references to it
+abbrev pub outcome_of : {V Z : Type 0} → Result (Bor (Arc V Z)) (Bor Refusal) → Result V Refusal
+outcome_of (Ok value) = Ok (arc_value value.now)
+outcome_of (Err refusal) = Err refusal.now
+
+-- the job at that place is handed the gift
+abbrev pub IsGiftOf : {J V : Type 0} → ℕ → Option (Gift V) → List (Boards.Slot J Found V Refusal)
+    → List (Boards.Slot J Found V Refusal) → Type 0
+IsGiftOf {J = J} {V = V} place gift old new =
+    (slot : Boards.Slot J Found V Refusal) → slice_get old place ≡ Some slot
+    → new ≡ slice_set old place (handed_slot gift slot)

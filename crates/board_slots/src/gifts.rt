@@ -1,6 +1,6 @@
 //! What a job on the board is handed.
-use bz_base::Refusal;
 use board_work::Given;
+use bz_base::Refusal;
 use std::sync::Arc;
 
 /// An answer to the need of a parked job, or what a job ends with.

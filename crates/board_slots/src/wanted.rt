@@ -1,9 +1,12 @@
 //! Needs, and what was found at the files among them.
-ghost use Rattle.std.specs.Prelude.{◌≡◌, None, Some, IfOk};
+ghost use Rattle.std.specs.Prelude.{◌≡◌, None, Some, IfOk, option_map};
+ghost use Rattle.std.specs.Option.{option_copied};
+ghost use Rattle.std.specs.Arc.{arc_value};
+ghost use Rattle.board_slots.specs.Needs.{found_of, open_path_of};
 ghost use Rattle.board_machine.specs.Boards.{File, Job};
 ghost use Rattle.board_machine.specs.Moves.{is_file, is_job, filled};
 
-use bz_base::TreePath;
+use bz_base::{Mem, TreePath};
 use bz_tree::Found;
 use std::marker::Model;
 use std::sync::Arc;
@@ -63,6 +66,35 @@ impl Wanted {
         match &self.asked {
             Asked::File(_, _) => false,
             Asked::Job(other) => place == *other,
+        }
+    }
+
+    /// What was found at a file, where that is known.
+    pub fn found(&self) -> Mem<Option<Arc<Found>>>
+        ensures { IfOk result (λ found. option_map arc_value found ≡ found_of self.now) }
+    {
+        match &self.asked {
+            Asked::File(_, Some(found)) => Ok(Some(Arc::try_clone(found)?)),
+            _ => Ok(None),
+        }
+    }
+
+    /// The path of a file of which nothing is known yet.
+    pub fn open_path(&self) -> Option<&TreePath>
+        ensures { option_copied result ≡ open_path_of self.now }
+    {
+        match &self.asked {
+            Asked::File(path, None) => Some(path),
+            _ => None,
+        }
+    }
+
+    /// A file's need is answered from now on.
+    pub fn fill(&mut self, found: Arc<Found>)
+        ensures { self.new ≡ filled (arc_value found) self.old }
+    {
+        if let Asked::File(_, old) = &mut self.asked {
+            *old = Some(found);
         }
     }
 }

@@ -1,0 +1,2 @@
+pub mod GiftLists
+pub mod Ways
