@@ -1,0 +1,53 @@
+-- What contracts see of a board: how it stands, what happened on it, and the steps spent.
+use Rattle.std.specs.Prelude.{ℕ, ◌+◌, ◌≤◌, List, [], ◌∷◌, ◌++◌, Bool, true, false, ◌≡◌, min, count_by}
+use Rattle.std.specs.Prelude.{Result, Ok, Err, MatchBool, length}
+use Rattle.bz_base.specs.declared.refusals.Refusal.{Refusal}
+use Rattle.bz_base.specs.Counts.{last_count}
+use Rattle.bz_tree.specs.declared.tree.Found.{Found}
+use Rattle.board_machine.specs.Boards.{Board, Slot}
+use Rattle.board_machine.specs.Events
+use Rattle.board_machine.specs.Events.{Event}
+use Rattle.board_machine.specs.Moves.{halt, is_queued}
+
+pub record Account (J V : Type 0) : Type 0 where
+  pub board : Board J Found V Refusal
+  pub journal : List Event
+  pub spent : ℕ
+
+-- an event that ends no turn
+abbrev pub noted : {J V : Type 0} → Event → Board J Found V Refusal → Account J V → Account J V
+noted event board account =
+    record { board = board; journal = account.journal ++ event ∷ []; spent = account.spent }
+
+-- an event that ends a turn of so many steps; a count stays at its last value
+abbrev pub ended : {J V : Type 0} → Event → ℕ → Board J Found V Refusal → Account J V
+    → Account J V
+ended event steps board account =
+    record {
+      board = board;
+      journal = account.journal ++ event ∷ [];
+      spent = min (account.spent + steps) last_count;
+    }
+
+-- an account, and for how many more events the journal has room
+pub record Table (J V : Type 0) : Type 0 where
+  pub account : Account J V
+  pub room : ℕ
+
+abbrev pub queued_count : {J V : Type 0} → List (Slot J Found V Refusal) → ℕ
+queued_count slots = count_by (λ slot. is_queued slot.state) slots
+
+-- there is room for each queued job's claim, and for one event more
+abbrev pub HasRoom : {J V : Type 0} → Table J V → Type 0
+HasRoom table = queued_count table.account.board.slots + 1 ≤ table.room
+
+-- the call was one event, and left room for what may come; or memory ran out, and nothing changed
+abbrev pub IsEvent : {J V T E : Type 0} → Table J V → Table J V → Account J V → Result T E → Type 0
+IsEvent old new after (Ok x) =
+    (new.account ≡ after) × (length after.board.slots + 1 ≤ new.room)
+IsEvent old new after (Err e) = (new.account ≡ old.account) × (old.room ≤ new.room)
+
+-- nothing goes on any more; a halted board is left as it is
+abbrev pub IsHalted : {J V : Type 0} → Account J V → Account J V → Type 0
+IsHalted old new =
+    MatchBool old.board.halted (new ≡ old) (new ≡ noted Events.Halt (halt old.board) old)

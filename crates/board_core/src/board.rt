@@ -1,0 +1,79 @@
+//! The board of a work, on which any number of workers go on.
+ghost use Rattle.std.specs.Prelude.{◌≡◌, true, ℕ, List, Some, is_err, slice_get, option_map};
+ghost use Rattle.bz_tree.specs.declared.tree.Found.{Found};
+ghost use Rattle.board_core.specs.Accounts.{IsHalted, ended, noted};
+ghost use Rattle.board_core.specs.Calls.{HappensIf, IsGivenRightly};
+ghost use Rattle.board_core.specs.Claims.{ClaimGives};
+ghost use Rattle.board_core.specs.Histories.{IsOutcomeOf, finish_with};
+ghost use Rattle.board_machine.specs.Events.{Finish, Shelve};
+ghost use Rattle.board_machine.specs.Moves.{shelve};
+ghost use Rattle.board_slots.specs.Claims.{is_held};
+ghost use Rattle.board_slots.specs.Needs.{is_open_at};
+ghost use Rattle.board_work.specs.Turns.{rules_of};
+
+use crate::table::Table;
+use board_work::{BoardOf, Claim, Held, Stop, Work};
+use bz_base::{Mem, Refusal, TreePath};
+use bz_tree::Found;
+use std::alloc::Global;
+use std::marker::{Model, PhantomData};
+
+/// The jobs of a work, on which any number of workers go on. Contracts see how it stands, what
+/// happened on it, and the steps spent.
+#[derive(Drop)]
+pub struct Board<W: Work, N: BoardOf<W>> {
+    table: Table<W>,
+    of: PhantomData<N>,
+}
+
+impl<W: Work, N: BoardOf<W>> Model for Board<W, N> {
+    ghost use Rattle.board_core.specs.Accounts.{Account};
+    ghost use Rattle.board_core.specs.Histories.{IsKept};
+
+    ghost Value = { Account W.Job W.Value };
+
+    ghost view = { λ board. board.table.account };
+
+    ghost invariant = { λ board. IsKept (W.meaning N.work) N.files N.goals board.table };
+}
+
+impl<W: Work, N: BoardOf<W>> Board<W, N> {
+    /// Claims the queued job with the least number. Takes no memory.
+    pub fn claim(&mut self, worker: u32) -> Claim<W>
+        ensures gives { ClaimGives W.job_of W.answers_of worker self.old self.new result }
+        ensures given { (file : List ℕ → Found) → N.files ≡ Some file → IsGivenRightly (rules_of (W.meaning N.work) file) W.answers_of result }
+    {
+        self.table.claim(worker)
+    }
+
+    /// Ends a claimed job. It is false where the job isn't held, and then nothing changes.
+    pub fn finish(
+        &mut self,
+        alloc: Global,
+        work: &W,
+        held: Held<W>,
+        outcome: Result<W::Value, Refusal>,
+        spent: u64,
+    ) -> Mem<bool>
+        requires named { work.now ≡ N.work }
+        requires own { (W.meaning N.work).own held.job ≡ true }
+        requires outcome { (file : List ℕ → Found) → N.files ≡ Some file → IsOutcomeOf (rules_of (W.meaning N.work) file) (W.meaning N.work).ticks held.job held.answers outcome spent }
+        ensures { HappensIf (is_held (W.meaning N.work).text held.job held.worker held.answers (slice_get self.old.board.slots held.place)) self.old self.new (ended (Finish held.worker held.place (is_err outcome)) spent (finish_with held.place outcome self.old.board) self.old) result }
+    {
+        if !self.table.holds(work, &held) {
+            return Ok(false);
+        }
+        let place = held.place as usize;
+        match outcome {
+            Ok(value) => {
+                self.table
+                    .finish_value(alloc, held.worker, place, value, spent)?
+            }
+            Err(refusal) => {
+                self.table
+                    .finish_refused(alloc, held.worker, place, refusal, spent)?
+            }
+        }
+        Ok(true)
+    }
+}

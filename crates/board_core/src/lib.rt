@@ -1,0 +1,8 @@
+//! The board.
+#![tactic(auto)]
+
+pub mod board;
+mod journal;
+mod table;
+
+pub use board::Board;
