@@ -1,8 +1,8 @@
 -- What the calls of a board keep.
 use Rattle.std.proofs.Common.{◌≡◌, ℕ, suc, ◌+◌, ◌<◌, ◌≤◌, ◌==◌, Bool, true, false, List, [], ◌∷◌}
 use Rattle.std.proofs.Common.{◌++◌, length, refl, ap, sym, ◌∙◌, subst, arith, Option, Some, None}
-use Rattle.std.proofs.Common.{slice_get, Result, Ok, Err}
-use Rattle.std.specs.Prelude.{IfSome, count_by, ◌&&◌, min, is_err, if◌then◌else◌}
+use Rattle.std.proofs.Common.{slice_get, slice_set, zero, Result, Ok, Err}
+use Rattle.std.specs.Prelude.{IfSome, count_by, ◌&&◌, min, is_err, if◌then◌else◌, MatchBool}
 use Rattle.std.specs.Str.{bytes_eq}
 use Rattle.std.proofs.lemmas.Bool.Decides.{nat_tests}
 use Rattle.bz_base.specs.Counts.{last_count}
@@ -13,17 +13,26 @@ use Rattle.board_laws.specs.Results.{IsGiven}
 use Rattle.board_laws.specs.Works.{Answer, Lawful, Rules}
 use Rattle.board_laws.proofs.Turning.{text_same}
 use Rattle.board_machine.specs.Boards.{Board, Slot, State, Queued, Claimed, OnFile, OnJob, Valued}
-use Rattle.board_machine.specs.Boards.{RefusedWith}
-use Rattle.board_machine.specs.Events.{Event, Holds, Kept, Step, values, refuses}
+use Rattle.board_machine.specs.Boards.{RefusedWith, Needed, File}
+use Rattle.board_machine.specs.Boards
+use Rattle.board_machine.specs.Events.{Event, Holds, Kept, Step, values, refuses, claims, shelves}
+use Rattle.board_machine.specs.Events.{halts}
 use Rattle.board_machine.specs.Events
 use Rattle.board_machine.specs.Kept.{IsLinked}
-use Rattle.board_machine.specs.Moves.{is_queued}
+use Rattle.board_machine.specs.Moves.{claim, count_in, first_queued, halt, is_queued, set_state}
+use Rattle.board_machine.specs.Moves.{shelve, state_in}
+use Rattle.board_machine.proofs.Slots.{put-set}
+use Rattle.board_work.specs.declared.worker.Claim.{Claim}
+use Rattle.board_work.specs.declared.worker.Claim.TheVariants.{Job, Nothing, Finished}
+use Rattle.board_slots.specs.Needs.{is_open_at}
+use Rattle.board_core.specs.Calls.{IsGivenRightly}
+use Rattle.board_core.specs.Claims.{ClaimGives, claim_count}
 use Rattle.board_machine.proofs.Keeping.{step_kept}
-use Rattle.board_machine.proofs.Links.{spread_refusal_linked, value_linked}
+use Rattle.board_machine.proofs.Links.{hand_file_linked, set_state_linked, spread_refusal_linked, value_linked}
 use Rattle.board_machine.proofs.Whole.{begin_kept}
 use Rattle.board_slots.specs.Claims.{is_claimed_by, is_held}
 use Rattle.board_work.specs.Turns.{Meaning, rules_of}
-use Rattle.board_core.specs.Accounts.{HasRoom, IsEvent, Table, ended, queued_count}
+use Rattle.board_core.specs.Accounts.{HasRoom, IsEvent, IsHalted, Table, ended, noted, queued_count}
 use Rattle.board_core.specs.Histories.{IsHistory, IsKept, IsLinkedFor, IsOutcomeOf, finish_with}
 use Rattle.board_core.specs.Histories.{happens, opening, spent_after}
 
@@ -201,3 +210,148 @@ module _ {J V : Type 0} (meaning : Meaning J V) (files : Option (List ℕ → Fo
       (finished_history file old.account.journal old.account.board old.account.spent job worker count
       place steps outcome held own kept.linked (is file e)
       (told_history meaning files goals file old e kept)))
+
+-- a queued job less
+fewer_queued : {J V : Type 0} (slots : List (Slot J Found V Refusal)) (place : ℕ)
+    (slot new : Slot J Found V Refusal) → slice_get slots place ≡ Some slot
+    → is_queued slot.state ≡ true → is_queued new.state ≡ false
+    → queued_count (slice_set slots place new) + 1 ≡ queued_count slots
+fewer_queued [] place slot new h on off = absurd (cc)
+fewer_queued (one ∷ slots) zero slot new h on off =
+    let same : one ≡ slot = cc in
+    let first : is_queued one.state ≡ true = ap (λ s. is_queued s.state) same ∙ on in
+    rw (off, first) (omega arith)
+fewer_queued (one ∷ slots) (suc place) slot new h on off =
+    go (is_queued one.state) (fewer_queued slots place slot new h on off)
+  where
+    go : (b : Bool) → queued_count (slice_set slots place new) + 1 ≡ queued_count slots
+        → (if b then suc (queued_count (slice_set slots place new)) else queued_count (slice_set slots place new)) + 1
+        ≡ (if b then suc (queued_count slots) else queued_count slots)
+    go true e = omega arith
+    go false e = e
+
+module _ {J V : Type 0} (meaning : Meaning J V) (files : Option (List ℕ → Found)) (goals : List J)
+    (law : (file : List ℕ → Found) → Lawful (rules_of meaning file)) where
+  claim_room : (worker count : ℕ) (board : Board J Found V Refusal) (slot : Slot J Found V Refusal)
+      (answers : List (Answer Found V))
+      → slice_get board.slots (first_queued board.slots) ≡ Some slot → slot.state ≡ Queued answers
+      → queued_count (set_state (first_queued board.slots) (Claimed worker count) board.slots) + 1
+      ≡ queued_count board.slots
+  claim_room worker count board slot answers stands queued =
+      ap (λ xs. queued_count xs + 1)
+      (put-set (λ one. record { job = one.job; state = Claimed worker count }) board.slots
+      (first_queued board.slots) slot stands)
+      ∙ fewer_queued board.slots (first_queued board.slots) slot
+      (record { job = slot.job; state = Claimed worker count }) stands (ap is_queued queued) refl
+
+  pub claimed_kept : {W P : Type 0} (job_of : P → J) (answers_of : P → List (Answer Found V))
+      (worker : ℕ) (old new : Table J V) (result : Claim W J P V)
+      → ClaimGives job_of answers_of worker old.account new.account result
+      → old.room ≤ new.room + claim_count result
+      → IsKept meaning files goals old → IsKept meaning files goals new
+  claimed_kept job_of answers_of worker old new (Job held part given) claimed room kept =
+      let board = old.account.board in
+      let place = first_queued board.slots in
+      let count = count_in (state_in (slice_get board.slots place)) in
+      record {
+        linked =
+            subst (λ a. IsLinkedFor meaning a.board.slots) (sym claimed.event)
+            (set_state_linked (rules_of meaning (λ path. Found.TheVariants.Absent)) place
+            (Claimed worker count) board.slots refl tt kept.linked);
+        history =
+            subst (λ a. IfSome files (λ file. IsHistory (rules_of meaning file) meaning.ticks goals
+            a.journal a.board a.spent)) (sym claimed.event) (go files kept.history);
+        room =
+            subst (λ a. a.board.halted ≡ false → queued_count a.board.slots + 1 ≤ new.room)
+            (sym claimed.event)
+            (λ going. let before = kept.room going in
+            let less = claim_room worker count board _ _ claimed.stood refl in omega arith);
+      }
+    where
+      go : (o : Option (List ℕ → Found))
+          → IfSome o (λ file. IsHistory (rules_of meaning file) meaning.ticks goals
+          old.account.journal old.account.board old.account.spent)
+          → IfSome o (λ file. IsHistory (rules_of meaning file) meaning.ticks goals
+          (old.account.journal ++ Events.Claim worker (first_queued old.account.board.slots) ∷ [])
+          (claim worker old.account.board) old.account.spent)
+      go None h = tt
+      go (Some file) h = happens h (claims claimed.not_over claimed.stood refl)
+  claimed_kept job_of answers_of worker old new Nothing claimed room kept =
+      unchanged_kept meaning files goals old new claimed.unchanged (omega (arith, room)) kept
+  claimed_kept job_of answers_of worker old new Finished claimed room kept =
+      unchanged_kept meaning files goals old new claimed.unchanged (omega (arith, room)) kept
+
+  pub claimed_given : {W P : Type 0} (job_of : P → J) (answers_of : P → List (Answer Found V))
+      (worker : ℕ) (old new : Table J V) (result : Claim W J P V) (file : List ℕ → Found)
+      → files ≡ Some file
+      → ClaimGives job_of answers_of worker old.account new.account result
+      → IsKept meaning files goals old → IsGivenRightly (rules_of meaning file) answers_of result
+  claimed_given job_of answers_of worker old new (Job held part given) file e claimed kept =
+      (history_kept (rules_of meaning file) meaning.ticks goals (law file)
+      (told_history meaning files goals file old e kept)).sound.stand
+      (first_queued old.account.board.slots) _ claimed.stood
+  claimed_given job_of answers_of worker old new Nothing file e claimed kept = tt
+  claimed_given job_of answers_of worker old new Finished file e claimed kept = tt
+
+  pub shelved_kept : (old new : Table J V) (need : ℕ) (path : List ℕ) (found : Found)
+      → slice_get old.account.board.needs need ≡ Some (File path None)
+      → ((file : List ℕ → Found) → files ≡ Some file → found ≡ file path)
+      → new.account ≡ noted (Events.Shelve need) (shelve need found old.account.board) old.account
+      → length (shelve need found old.account.board).slots + 1 ≤ new.room
+      → IsKept meaning files goals old → IsKept meaning files goals new
+  shelved_kept old new need path found open_need is event room kept =
+      let board = old.account.board in
+      event_kept meaning files goals old new (Events.Shelve need)
+      (subst (λ a. IsLinkedFor meaning a.board.slots) (sym event)
+      (hand_file_linked (rules_of meaning (λ path. Found.TheVariants.Absent)) need found board.slots
+      kept.linked))
+      (subst (λ a. length a.board.slots + 1 ≤ new.room) (sym event) room)
+      (λ file e. subst (λ a. IsHistory (rules_of meaning file) meaning.ticks goals a.journal a.board
+      a.spent) (sym event)
+      (subst (λ f. IsHistory (rules_of meaning file) meaning.ticks goals
+      (old.account.journal ++ Events.Shelve need ∷ []) (shelve need f board) old.account.spent)
+      (sym (is file e))
+      (happens (told_history meaning files goals file old e kept) (shelves open_need))))
+
+  pub halted_kept : (old new : Table J V) → IsHalted old.account new.account
+      → old.room ≤ new.room + 1 → (old.account.board.halted ≡ true → old.room ≤ new.room)
+      → IsKept meaning files goals old → IsKept meaning files goals new
+  halted_kept old new is less same kept = go old.account.board.halted refl is
+    where
+      go : (b : Bool) → old.account.board.halted ≡ b
+          → MatchBool b (new.account ≡ old.account)
+          (new.account ≡ noted Events.Halt (halt old.account.board) old.account)
+          → IsKept meaning files goals new
+      go true e unchanged = unchanged_kept meaning files goals old new unchanged (same e) kept
+      go false e event =
+          record {
+            linked = subst (λ a. IsLinkedFor meaning a.board.slots) (sym event) kept.linked;
+            history =
+                subst (λ a. IfSome files (λ file. IsHistory (rules_of meaning file) meaning.ticks
+                goals a.journal a.board a.spent)) (sym event) (told files kept.history);
+            room =
+                subst (λ a. a.board.halted ≡ false → queued_count a.board.slots + 1 ≤ new.room)
+                (sym event) (λ going. absurd (cc));
+          }
+        where
+          told : (o : Option (List ℕ → Found))
+              → IfSome o (λ file. IsHistory (rules_of meaning file) meaning.ticks goals
+              old.account.journal old.account.board old.account.spent)
+              → IfSome o (λ file. IsHistory (rules_of meaning file) meaning.ticks goals
+              (old.account.journal ++ Events.Halt ∷ []) (halt old.account.board)
+              old.account.spent)
+          told None h = tt
+          told (Some file) h = happens h (halts e)
+
+-- what is open there is that file's need
+pub open_at_is : (path : List ℕ) (needs : List (Needed Found)) (need : ℕ)
+    → is_open_at path (slice_get needs need) ≡ true → slice_get needs need ≡ Some (File path None)
+open_at_is path needs need is = go (slice_get needs need) refl is
+  where
+    go : (o : Option (Needed Found)) → slice_get needs need ≡ o → is_open_at path o ≡ true
+        → o ≡ Some (File path None)
+    go None e h = absurd (cc)
+    go (Some (File other None)) e h =
+        ap (λ p. Some (File p None)) (sym (text_same path other h))
+    go (Some (File other (Some found))) e h = absurd (cc)
+    go (Some (Boards.Job place)) e h = absurd (cc)

@@ -1,6 +1,6 @@
 -- What contracts see of a board: how it stands, what happened on it, and the steps spent.
-use Rattle.std.specs.Prelude.{ℕ, ◌+◌, ◌≤◌, List, [], ◌∷◌, ◌++◌, Bool, true, false, ◌≡◌, min, count_by}
-use Rattle.std.specs.Prelude.{Result, Ok, Err, MatchBool, length}
+use Rattle.std.specs.Prelude.{ℕ, ◌+◌, ◌≤◌, List, [], ◌∷◌, ◌++◌, Bool, true, false, ◌≡◌, min, suc}
+use Rattle.std.specs.Prelude.{Result, Ok, Err, MatchBool, length, if◌then◌else◌}
 use Rattle.bz_base.specs.declared.refusals.Refusal.{Refusal}
 use Rattle.bz_base.specs.Counts.{last_count}
 use Rattle.bz_tree.specs.declared.tree.Found.{Found}
@@ -34,8 +34,11 @@ pub record Table (J V : Type 0) : Type 0 where
   pub account : Account J V
   pub room : ℕ
 
+-- how many jobs are queued
 abbrev pub queued_count : {J V : Type 0} → List (Slot J Found V Refusal) → ℕ
-queued_count slots = count_by (λ slot. is_queued slot.state) slots
+queued_count [] = 0
+queued_count (slot ∷ slots) =
+    if is_queued slot.state then suc (queued_count slots) else queued_count slots
 
 -- there is room for each queued job's claim, and for one event more
 abbrev pub HasRoom : {J V : Type 0} → Table J V → Type 0

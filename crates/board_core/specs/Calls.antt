@@ -32,3 +32,8 @@ abbrev pub outcome_in : {J V : Type 0} → Option (Slot J Found V Refusal)
     → Option (Result V Refusal)
 outcome_in None = None
 outcome_in (Some slot) = result_of slot.state
+
+-- the job at a place
+abbrev pub job_at : {J V : Type 0} → Option (Slot J Found V Refusal) → Option J
+job_at None = None
+job_at (Some slot) = Some slot.job

@@ -29,7 +29,7 @@ spent_after ticks spent (values {job = job} {answers = answers} held ends) =
     min (spent + ticks job answers) last_count
 spent_after ticks spent (refuses {job = job} {answers = answers} held ends) =
     min (spent + ticks job answers) last_count
-spent_after ticks spent (shelves open) = spent
+spent_after ticks spent (shelves unanswered) = spent
 spent_after ticks spent (halts going) = spent
 
 -- the board is what these events make of the goals, and so many steps were spent

@@ -1,22 +1,26 @@
 //! The board of a work, on which any number of workers go on.
-ghost use Rattle.std.specs.Prelude.{◌≡◌, true, ℕ, List, Some, is_err, slice_get, option_map};
+ghost use Rattle.std.specs.Prelude.{◌≡◌, true, ℕ, List, Some, is_err, is_some, map, slice_get, option_map};
 ghost use Rattle.bz_tree.specs.declared.tree.Found.{Found};
 ghost use Rattle.board_core.specs.Accounts.{IsHalted, ended, noted};
-ghost use Rattle.board_core.specs.Calls.{HappensIf, IsGivenRightly};
+ghost use Rattle.board_core.specs.Calls.{HappensIf, IsGivenRightly, job_at, outcome_in};
 ghost use Rattle.board_core.specs.Claims.{ClaimGives};
 ghost use Rattle.board_core.specs.Histories.{IsOutcomeOf, finish_with};
 ghost use Rattle.board_machine.specs.Events.{Finish, Shelve};
 ghost use Rattle.board_machine.specs.Moves.{shelve};
 ghost use Rattle.board_slots.specs.Claims.{is_held};
 ghost use Rattle.board_slots.specs.Needs.{is_open_at};
+ghost use Rattle.board_slots.specs.Views.{outcome_of};
+ghost use Rattle.board_core.specs.Journals.{event_of};
+ghost use Rattle.std.specs.Option.{option_copied};
 ghost use Rattle.board_work.specs.Turns.{rules_of};
 
 use crate::table::Table;
-use board_work::{BoardOf, Claim, Held, Stop, Work};
+use board_work::{BoardOf, Claim, Event, Held, Stop, Work};
 use bz_base::{Mem, Refusal, TreePath};
 use bz_tree::Found;
 use std::alloc::Global;
 use std::marker::{Model, PhantomData};
+use std::sync::Arc;
 
 /// The jobs of a work, on which any number of workers go on. Contracts see how it stands, what
 /// happened on it, and the steps spent.
@@ -75,5 +79,61 @@ impl<W: Work, N: BoardOf<W>> Board<W, N> {
             }
         }
         Ok(true)
+    }
+
+    /// Puts on the shelf what stands at a file's path. It is false where the need isn't one of this
+    /// file without an answer, and then nothing changes.
+    pub fn shelve(&mut self, alloc: Global, need: u64, path: &TreePath, found: Found) -> Mem<bool>
+        requires { (file : List ℕ → Found) → N.files ≡ Some file → found ≡ file path.now }
+        ensures { HappensIf (is_open_at path.now (slice_get self.old.board.needs need)) self.old self.new (noted (Shelve need) (shelve need found self.old.board) self.old) result }
+    {
+        if !self.table.is_open_at(need as usize, path) {
+            return Ok(false);
+        }
+        self.table.shelve(alloc, need as usize, found)?;
+        Ok(true)
+    }
+
+    /// Keeps the reason why nothing goes on any more; a halted board is left as it is. Takes no
+    /// memory.
+    pub fn halt(&mut self, why: Stop)
+        ensures { IsHalted self.old self.new }
+    {
+        self.table.halt(why);
+    }
+
+    /// The job at a place.
+    pub fn job(&self, place: usize) -> Option<&W::Job>
+        ensures { option_copied result ≡ job_at (slice_get self.now.board.slots place) }
+    {
+        self.table.job(place)
+    }
+
+    /// What the job at a place came to, if it is done.
+    pub fn outcome(&self, place: usize) -> Option<Result<&Arc<W::Value>, &Refusal>>
+        ensures { option_map outcome_of result ≡ outcome_in (slice_get self.now.board.slots place) }
+    {
+        self.table.outcome(place)
+    }
+
+    /// Why the board was halted, if it was.
+    pub fn stopped(&self) -> Option<&Stop>
+        ensures { is_some result ≡ self.now.board.halted }
+    {
+        self.table.stopped()
+    }
+
+    /// The steps of all turns that ended.
+    pub fn spent(&self) -> u64
+        ensures { result ≡ self.now.spent }
+    {
+        self.table.spent()
+    }
+
+    /// What happened on the board.
+    pub fn journal(&self) -> &[Event]
+        ensures { map event_of result.now ≡ self.now.journal }
+    {
+        self.table.journal()
     }
 }

@@ -1,6 +1,6 @@
 //! How a board stands, and the events that change it, whatever its work is.
 ghost use Rattle.std.specs.Prelude.{◌≡◌, ◌≤◌, ◌<◌, ◌+◌, [], true, false, Some, IfOk, length};
-ghost use Rattle.std.specs.Prelude.{is_some, slice_get, vec_len, option_map, OnOk, OnErr};
+ghost use Rattle.std.specs.Prelude.{is_some, slice_get, vec_len, option_map, map};
 ghost use Rattle.board_core.specs.Accounts.{HasRoom, IsEvent, IsHalted, ended, noted};
 ghost use Rattle.board_core.specs.Claims.{ClaimGives, IsQueuedAt, IsTakenAt, claim_count};
 ghost use Rattle.board_machine.specs.Events.{Finish, Shelve};
@@ -8,6 +8,10 @@ ghost use Rattle.board_machine.specs.Moves.{finish_refused, finish_value, is_ove
 ghost use Rattle.board_machine.specs.Moves.{shelve};
 ghost use Rattle.board_slots.specs.Claims.{is_held};
 ghost use Rattle.board_slots.specs.Needs.{is_open_at};
+ghost use Rattle.board_slots.specs.Views.{outcome_of};
+ghost use Rattle.board_core.specs.Calls.{job_at, outcome_in};
+ghost use Rattle.board_core.specs.Journals.{event_of};
+ghost use Rattle.std.specs.Option.{option_copied};
 
 use crate::journal::Journal;
 use board_slots::handing::{file_gifts, hand_out, refusal_gifts, value_gifts};
@@ -169,13 +173,51 @@ impl<W: Work> Table<W> {
     /// Keeps the reason why nothing goes on any more. Takes no memory.
     pub fn halt(&mut self, why: Stop)
         requires { self.old.account.board.halted ≡ false → HasRoom self.old }
-        ensures { IsHalted self.old.account self.new.account }
+        ensures halted { IsHalted self.old.account self.new.account }
+        ensures room { self.old.room ≤ self.new.room + 1 }
+        ensures same { self.old.account.board.halted ≡ true → self.old.room ≤ self.new.room }
     {
         if self.stop.is_some() {
             return;
         }
         self.stop = Some(why);
         self.journal.write(Event::Halt);
+    }
+
+    pub fn job(&self, place: usize) -> Option<&W::Job>
+        ensures { option_copied result ≡ job_at (slice_get self.now.account.board.slots place) }
+    {
+        match self.slots.get(place) {
+            Some(slot) => Some(slot.job()),
+            None => None,
+        }
+    }
+
+    pub fn outcome(&self, place: usize) -> Option<Result<&Arc<W::Value>, &Refusal>>
+        ensures { option_map outcome_of result ≡ outcome_in (slice_get self.now.account.board.slots place) }
+    {
+        match self.slots.get(place) {
+            Some(slot) => slot.outcome(),
+            None => None,
+        }
+    }
+
+    pub fn stopped(&self) -> Option<&Stop>
+        ensures { is_some result ≡ self.now.account.board.halted }
+    {
+        self.stop.as_ref()
+    }
+
+    pub fn spent(&self) -> u64
+        ensures { result ≡ self.now.account.spent }
+    {
+        self.spent
+    }
+
+    pub fn journal(&self) -> &[Event]
+        ensures { map event_of result.now ≡ self.now.account.journal }
+    {
+        self.journal.events()
     }
 }
 
