@@ -9,14 +9,15 @@ use Rattle.bz_base.specs.Counts.{last_count}
 use Rattle.bz_base.specs.declared.refusals.Refusal.{Refusal}
 use Rattle.bz_tree.specs.declared.tree.Found.{Found}
 use Rattle.bz_tree.specs.declared.tree.Found
-use Rattle.board_laws.specs.Results.{IsGiven}
+use Rattle.board_laws.specs.Results.{AllOwn, IsGiven}
+use Rattle.board_slots.specs.Views.{bare_rules}
 use Rattle.board_laws.specs.Works.{Answer, Lawful, Rules}
 use Rattle.board_laws.proofs.Turning.{text_same}
 use Rattle.board_machine.specs.Boards.{Board, Slot, State, Queued, Claimed, OnFile, OnJob, Valued}
 use Rattle.board_machine.specs.Boards.{RefusedWith, Needed, File}
 use Rattle.board_machine.specs.Boards
 use Rattle.board_machine.specs.Events.{Event, Holds, Kept, Step, values, refuses, claims, shelves}
-use Rattle.board_machine.specs.Events.{halts}
+use Rattle.board_machine.specs.Events.{halts, with_jobs}
 use Rattle.board_machine.specs.Events
 use Rattle.board_machine.specs.Kept.{IsLinked}
 use Rattle.board_machine.specs.Moves.{claim, count_in, first_queued, halt, is_queued, set_state}
@@ -32,7 +33,7 @@ use Rattle.board_machine.proofs.Links.{hand_file_linked, set_state_linked, sprea
 use Rattle.board_machine.proofs.Whole.{begin_kept}
 use Rattle.board_slots.specs.Claims.{is_claimed_by, is_held}
 use Rattle.board_work.specs.Turns.{Meaning, rules_of}
-use Rattle.board_core.specs.Accounts.{HasRoom, IsEvent, IsHalted, Table, ended, noted, queued_count}
+use Rattle.board_core.specs.Accounts.{HasRoom, IsEvent, IsHalted, Table, ended, noted, opened, queued_count}
 use Rattle.board_core.specs.Histories.{IsHistory, IsKept, IsLinkedFor, IsOutcomeOf, finish_with}
 use Rattle.board_core.specs.Histories.{happens, opening, spent_after}
 
@@ -355,3 +356,35 @@ open_at_is path needs need is = go (slice_get needs need) refl is
         ap (λ p. Some (File p None)) (sym (text_same path other h))
     go (Some (File other (Some found))) e h = absurd (cc)
     go (Some (Boards.Job place)) e h = absurd (cc)
+
+own_alike : {J V : Type 0} (meaning : Meaning J V) (file : List ℕ → Found) (goals : List J)
+    → AllOwn (bare_rules meaning) goals → AllOwn (rules_of meaning file) goals
+own_alike meaning file [] AllOwn.nil = AllOwn.nil
+own_alike meaning file (goal ∷ goals) (AllOwn.cons own owned) =
+    AllOwn.cons own (own_alike meaning file goals owned)
+
+-- a board on which nothing has happened
+pub opened_kept : {J V : Type 0} (meaning : Meaning J V) (files : Option (List ℕ → Found))
+    (goals : List J) (slots : List (Slot J Found V Refusal)) (new : Table J V)
+    → AllOwn (bare_rules meaning) goals
+    → slots ≡ with_jobs (bare_rules meaning) goals []
+    → new.account ≡ record {
+      board = record { goals = length slots; slots = slots; needs = []; halted = false };
+      journal = [];
+      spent = 0;
+    }
+    → length slots + 1 ≤ new.room
+    → IsKept meaning files goals new
+opened_kept {J} {V} meaning files goals slots new own jobs is room =
+    let made : new.account ≡ opened (bare_rules meaning) goals =
+        is ∙ ap (λ xs. record {
+          board = record { goals = length xs; slots = xs; needs = []; halted = false };
+          journal = [];
+          spent = 0;
+        }) jobs in
+    event_kept meaning files goals new new Events.Halt
+    (subst (λ a. IsLinkedFor meaning a.board.slots) (sym made)
+    (begin_kept (bare_rules meaning) goals own).linked)
+    (subst (λ a. length a.board.slots + 1 ≤ new.room) (sym is) room)
+    (λ file e. subst (λ a. IsHistory (rules_of meaning file) meaning.ticks goals a.journal a.board
+    a.spent) (sym made) (opening (own_alike meaning file goals own)))

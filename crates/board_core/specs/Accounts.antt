@@ -4,9 +4,10 @@ use Rattle.std.specs.Prelude.{Result, Ok, Err, MatchBool, length, if◌then◌el
 use Rattle.bz_base.specs.declared.refusals.Refusal.{Refusal}
 use Rattle.bz_base.specs.Counts.{last_count}
 use Rattle.bz_tree.specs.declared.tree.Found.{Found}
+use Rattle.board_laws.specs.Works.{Rules}
 use Rattle.board_machine.specs.Boards.{Board, Slot}
 use Rattle.board_machine.specs.Events
-use Rattle.board_machine.specs.Events.{Event}
+use Rattle.board_machine.specs.Events.{Event, begin}
 use Rattle.board_machine.specs.Moves.{halt, is_queued}
 
 pub record Account (J V : Type 0) : Type 0 where
@@ -54,3 +55,7 @@ IsEvent old new after (Err e) = (new.account ≡ old.account) × (old.room ≤ n
 abbrev pub IsHalted : {J V : Type 0} → Account J V → Account J V → Type 0
 IsHalted old new =
     MatchBool old.board.halted (new ≡ old) (new ≡ noted Events.Halt (halt old.board) old)
+
+-- the goals are queued, and nothing has happened
+abbrev pub opened : {J V : Type 0} → Rules J (List ℕ) Found V Refusal → List J → Account J V
+opened rules goals = record { board = begin rules goals; journal = []; spent = 0 }

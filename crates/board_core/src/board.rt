@@ -1,14 +1,17 @@
 //! The board of a work, on which any number of workers go on.
 ghost use Rattle.std.specs.Prelude.{◌≡◌, true, ℕ, List, Some, is_err, is_some, map, slice_get, option_map};
+ghost use Rattle.std.specs.Prelude.{IfOk, []};
+ghost use Rattle.board_laws.specs.Results.{AllOwn};
+ghost use Rattle.board_slots.specs.Views.{bare_rules};
 ghost use Rattle.bz_tree.specs.declared.tree.Found.{Found};
-ghost use Rattle.board_core.specs.Accounts.{IsHalted, ended, noted};
+ghost use Rattle.board_core.specs.Accounts.{IsHalted, ended, noted, opened};
 ghost use Rattle.board_core.specs.Calls.{HappensIf, IsGivenRightly, job_at, outcome_in};
 ghost use Rattle.board_core.specs.Claims.{ClaimGives};
 ghost use Rattle.board_core.specs.Histories.{IsOutcomeOf, finish_with};
-ghost use Rattle.board_machine.specs.Events.{Finish, Shelve};
+ghost use Rattle.board_machine.specs.Events.{Finish, Shelve, with_jobs};
 ghost use Rattle.board_machine.specs.Moves.{shelve};
 ghost use Rattle.board_slots.specs.Claims.{is_held};
-ghost use Rattle.board_slots.specs.Needs.{is_open_at};
+ghost use Rattle.board_slots.specs.Needs.{IsFirstOpen, is_open_at};
 ghost use Rattle.board_slots.specs.Views.{outcome_of};
 ghost use Rattle.board_core.specs.Journals.{event_of};
 ghost use Rattle.std.specs.Option.{option_copied};
@@ -16,7 +19,9 @@ ghost use Rattle.board_work.specs.Turns.{rules_of};
 
 use crate::table::Table;
 use board_work::{BoardOf, Claim, Event, Held, Stop, Work};
-use bz_base::{Mem, Refusal, TreePath};
+use board_slots::Slot;
+use board_slots::jobs::add_job;
+use bz_base::{Mem, Refusal, Seq, TreePath};
 use bz_tree::Found;
 use std::alloc::Global;
 use std::marker::{Model, PhantomData};
@@ -42,6 +47,20 @@ impl<W: Work, N: BoardOf<W>> Model for Board<W, N> {
 }
 
 impl<W: Work, N: BoardOf<W>> Board<W, N> {
+    /// A board whose goals are queued, equal ones once, and on which nothing has happened.
+    pub fn begin(alloc: Global, work: &W, goals: Seq<W::Job>) -> Mem<Board<W, N>>
+        requires named { work.now ≡ N.work }
+        requires goals { goals ≡ N.goals }
+        requires own { AllOwn (bare_rules (W.meaning N.work)) N.goals }
+        ensures { IfOk result (λ board. board ≡ opened (bare_rules (W.meaning N.work)) N.goals) }
+    {
+        let slots = goal_slots(alloc, work, goals.items())?;
+        Ok(Board {
+            table: Table::open(alloc, slots)?,
+            of: PhantomData,
+        })
+    }
+
     /// Claims the queued job with the least number. Takes no memory.
     pub fn claim(&mut self, worker: u32) -> Claim<W>
         ensures gives { ClaimGives W.job_of W.answers_of worker self.old self.new result }
@@ -79,6 +98,13 @@ impl<W: Work, N: BoardOf<W>> Board<W, N> {
             }
         }
         Ok(true)
+    }
+
+    /// The first file's need without an answer, and its path. Takes no memory.
+    pub fn wanted(&self) -> Option<(u64, &TreePath)>
+        ensures { IsFirstOpen self.now.board.needs result }
+    {
+        self.table.wanted()
     }
 
     /// Puts on the shelf what stands at a file's path. It is false where the need isn't one of this
@@ -136,4 +162,15 @@ impl<W: Work, N: BoardOf<W>> Board<W, N> {
     {
         self.table.journal()
     }
+}
+
+/// The goals, each queued, equal ones once.
+fn goal_slots<W: Work>(alloc: Global, work: &W, goals: &[W::Job]) -> Mem<Vec<Slot<W>>>
+    ensures { IfOk result (λ slots. slots.items ≡ with_jobs (bare_rules (W.meaning work.now)) goals.now []) }
+{
+    let mut slots = Vec::new(alloc);
+    for goal in goals {
+        add_job(alloc, work, &mut slots, goal)?;
+    }
+    Ok(slots)
 }

@@ -7,7 +7,7 @@ ghost use Rattle.board_machine.specs.Events.{Finish, Shelve};
 ghost use Rattle.board_machine.specs.Moves.{finish_refused, finish_value, is_over};
 ghost use Rattle.board_machine.specs.Moves.{shelve};
 ghost use Rattle.board_slots.specs.Claims.{is_held};
-ghost use Rattle.board_slots.specs.Needs.{is_open_at};
+ghost use Rattle.board_slots.specs.Needs.{IsFirstOpen, is_open_at};
 ghost use Rattle.board_slots.specs.Views.{outcome_of};
 ghost use Rattle.board_core.specs.Calls.{job_at, outcome_in};
 ghost use Rattle.board_core.specs.Journals.{event_of};
@@ -16,7 +16,7 @@ ghost use Rattle.std.specs.Option.{option_copied};
 use crate::journal::Journal;
 use board_slots::handing::{file_gifts, hand_out, refusal_gifts, value_gifts};
 use board_slots::jobs::{are_over, first_queued};
-use board_slots::needs::{answer, is_open_at};
+use board_slots::needs::{answer, is_open_at, wanted};
 use board_slots::{Slot, Wanted};
 use board_work::{Claim, Event, Held, Stop, Work};
 use bz_base::{Mem, Refusal, TreePath};
@@ -182,6 +182,12 @@ impl<W: Work> Table<W> {
         }
         self.stop = Some(why);
         self.journal.write(Event::Halt);
+    }
+
+    pub fn wanted(&self) -> Option<(u64, &TreePath)>
+        ensures { IsFirstOpen self.now.account.board.needs result }
+    {
+        wanted(&self.needs)
     }
 
     pub fn job(&self, place: usize) -> Option<&W::Job>

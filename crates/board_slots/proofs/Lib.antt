@@ -1,2 +1,3 @@
 pub mod GiftLists
+pub mod Opens
 pub mod Ways

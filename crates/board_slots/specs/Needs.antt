@@ -1,5 +1,7 @@
 -- What is known of a need.
-use Rattle.std.specs.Prelude.{ℕ, List, Bool, true, false, Option, None, Some}
+use Rattle.std.specs.Prelude.{ℕ, ◌≡◌, List, Bool, true, false, Option, None, Some, length, slice_get}
+use Rattle.std.specs.Borrow.{Bor}
+use Rattle.std.specs.List.{position_or_len}
 use Rattle.std.specs.Str.{bytes_eq}
 use Rattle.board_machine.specs.Boards.{Needed, File, Job}
 
@@ -30,3 +32,14 @@ is_open_at path None = false
 is_open_at path (Some (File other None)) = bytes_eq path other
 is_open_at path (Some (File other (Some found))) = false
 is_open_at path (Some (Job place)) = false
+
+-- the first file's need without an answer, and its path
+abbrev pub IsFirstOpen : {A : Type 0} → List (Needed A) → Option (ℕ × Bor (List ℕ)) → Type 0
+IsFirstOpen needs None = position_or_len is_open needs ≡ length needs
+IsFirstOpen needs (Some (number, path)) =
+    (number ≡ position_or_len is_open needs) × (slice_get needs number ≡ Some (File path.now None))
+
+-- a path with its need's number
+abbrev pub IsNumbered : ℕ → Option (Bor (List ℕ)) → Option (ℕ × Bor (List ℕ)) → Type 0
+IsNumbered number None result = result ≡ None
+IsNumbered number (Some path) result = result ≡ Some (number, path)

@@ -7,10 +7,11 @@ use Rattle.std.specs.Arc.{arc_value}
 use Rattle.bz_base.specs.declared.refusals.Refusal.{Refusal}
 use Rattle.bz_base.specs.Counts.{last_count}
 use Rattle.bz_tree.specs.declared.tree.Found.{Found}
-use Rattle.board_laws.specs.Works.{Answer}
+use Rattle.bz_tree.specs.declared.tree.Found
+use Rattle.board_laws.specs.Works.{Answer, Rules}
 use Rattle.board_machine.specs.Boards
 use Rattle.board_work.specs.declared.turns.Given.{Given}
-use Rattle.board_work.specs.Turns.{after, answer_of}
+use Rattle.board_work.specs.Turns.{Meaning, after, answer_of, rules_of}
 use Rattle.board_slots.specs.declared.slot.State.{State}
 use Rattle.board_slots.specs.declared.slot.State.TheVariants.{Queued, Claimed, OnFile, OnJob, Valued}
 use Rattle.board_slots.specs.declared.slot.State.TheVariants.{Refused}
@@ -121,3 +122,7 @@ abbrev pub IsGiftOf : {J V : Type 0} → ℕ → Option (Gift V) → List (Board
 IsGiftOf {J = J} {V = V} place gift old new =
     (slot : Boards.Slot J Found V Refusal) → slice_get old place ≡ Some slot
     → new ≡ slice_set old place (handed_slot gift slot)
+
+-- the rules of a work over files of which nothing is told
+abbrev pub bare_rules : {J V : Type 0} → Meaning J V → Rules J (List ℕ) Found V Refusal
+bare_rules meaning = rules_of meaning (λ path. Found.TheVariants.Absent)

@@ -5,7 +5,7 @@ ghost use Rattle.std.specs.Arc.{arc_value};
 ghost use Rattle.std.specs.List.{position_or_len};
 ghost use Rattle.board_machine.specs.Boards.{File, Job};
 ghost use Rattle.board_machine.specs.Moves.{is_file, is_job, shelve_need, with_need};
-ghost use Rattle.board_slots.specs.Needs.{found_in, is_open, is_open_at};
+ghost use Rattle.board_slots.specs.Needs.{IsFirstOpen, IsNumbered, found_in, is_open, is_open_at};
 
 use crate::wanted::Wanted;
 use bz_base::{Mem, TreePath};
@@ -46,6 +46,26 @@ pub fn first_open(needs: &[Wanted]) -> usize
         }
     }
     needs.len()
+}
+
+/// The first file's need without an answer, and its path.
+pub fn wanted(needs: &[Wanted]) -> Option<(u64, &TreePath)>
+    ensures { IsFirstOpen needs.now result }
+{
+    let number = first_open(needs);
+    match needs.get(number) {
+        Some(need) => numbered(number as u64, need.open_path()),
+        None => None,
+    }
+}
+
+fn numbered(number: u64, path: Option<&TreePath>) -> Option<(u64, &TreePath)>
+    ensures { IsNumbered number path.entry result }
+{
+    match path {
+        Some(path) => Some((number, path)),
+        None => None,
+    }
 }
 
 /// What was found for a need.
