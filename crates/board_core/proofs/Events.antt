@@ -65,6 +65,45 @@ module _ {J V : Type 0} where
       subst Goal view
       (seen_same goals needs halted is written counted, omega (arith, same, long, enough, kept))
 
+  -- an event that ends a turn and adds a need
+  pub parked_of : (f : ℕ → Slot J Found V Refusal → Slot J Found V Refusal)
+      (g : List (Needed Found) → List (Needed Found))
+      (goals : ℕ) (slots new : List (Slot J Found V Refusal)) (needs after : List (Needed Found))
+      (halted : Bool) (journal events : List Event) (spent total room made left len : ℕ)
+      (old : Table J V) (event : Event) (steps : ℕ)
+      → seen_table (seen goals slots needs halted journal spent) room ≡ old
+      → new ≡ map_places f 0 slots
+      → after ≡ g needs
+      → events ≡ journal ++ event ∷ []
+      → total ≡ min (spent + steps) last_count
+      → len ≡ length slots → len + 2 ≤ made → made ≤ left + 1
+      → (seen goals new after halted events total
+      ≡ ended event steps
+      (record {
+        goals = old.account.board.goals;
+        slots = map_places f 0 old.account.board.slots;
+        needs = g old.account.board.needs;
+        halted = old.account.board.halted;
+      }) old.account)
+      × (length (map_places f 0 old.account.board.slots) + 1 ≤ left)
+  parked_of f g goals slots new needs after halted journal events spent total room made left len old
+      event steps view is asked written counted long enough kept =
+      let Goal : Table J V → Type 0 = λ o. (seen goals new after halted events total
+          ≡ ended event steps
+          (record {
+            goals = o.account.board.goals;
+            slots = map_places f 0 o.account.board.slots;
+            needs = g o.account.board.needs;
+            halted = o.account.board.halted;
+          }) o.account)
+          × (length (map_places f 0 o.account.board.slots) + 1 ≤ left) in
+      let same = length-each f 0 slots in
+      subst Goal view
+      (seen_same goals after halted is written counted
+      ∙ ap (λ ns. seen goals (map_places f 0 slots) ns halted (journal ++ event ∷ [])
+      (min (spent + steps) last_count)) asked,
+      omega (arith, same, long, enough, kept))
+
   -- an event that ends no turn
   pub noted_of : (f : ℕ → Slot J Found V Refusal → Slot J Found V Refusal)
       (g : List (Needed Found) → List (Needed Found))

@@ -1,3 +1,4 @@
 pub mod Events
+pub mod FileParks
 pub mod Keeping
 pub mod TableClaims

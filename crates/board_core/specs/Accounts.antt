@@ -1,14 +1,14 @@
 -- What contracts see of a board: how it stands, what happened on it, and the steps spent.
 use Rattle.std.specs.Prelude.{ℕ, ◌+◌, ◌≤◌, List, [], ◌∷◌, ◌++◌, Bool, true, false, ◌≡◌, min, suc}
-use Rattle.std.specs.Prelude.{Result, Ok, Err, MatchBool, length, if◌then◌else◌}
+use Rattle.std.specs.Prelude.{Result, Ok, Err, MatchBool, None, length, if◌then◌else◌}
 use Rattle.bz_base.specs.declared.refusals.Refusal.{Refusal}
 use Rattle.bz_base.specs.Counts.{last_count}
 use Rattle.bz_tree.specs.declared.tree.Found.{Found}
-use Rattle.board_laws.specs.Works.{Rules}
-use Rattle.board_machine.specs.Boards.{Board, Slot}
+use Rattle.board_laws.specs.Works.{Answer, Rules}
+use Rattle.board_machine.specs.Boards.{Board, File, OnFile, Slot}
 use Rattle.board_machine.specs.Events
 use Rattle.board_machine.specs.Events.{Event, begin}
-use Rattle.board_machine.specs.Moves.{halt, is_queued}
+use Rattle.board_machine.specs.Moves.{halt, is_file, is_queued, set_state, with_need}
 
 pub record Account (J V : Type 0) : Type 0 where
   pub board : Board J Found V Refusal
@@ -59,3 +59,14 @@ IsHalted old new =
 -- the goals are queued, and nothing has happened
 abbrev pub opened : {J V : Type 0} → Rules J (List ℕ) Found V Refusal → List J → Account J V
 opened rules goals = record { board = begin rules goals; journal = []; spent = 0 }
+
+-- the job at a place waits for the file of a need, which stands in the list of needs
+abbrev pub waiting_for_file : {J V : Type 0} → ℕ → List (Answer Found V) → ℕ → List ℕ
+    → Board J Found V Refusal → Board J Found V Refusal
+waiting_for_file place answers need path board =
+    record {
+      goals = board.goals;
+      slots = set_state place (OnFile answers need) board.slots;
+      needs = with_need (is_file path) (File path None) board.needs;
+      halted = board.halted;
+    }

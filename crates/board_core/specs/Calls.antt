@@ -3,7 +3,12 @@ use Rattle.std.specs.Prelude.{ℕ, ◌≡◌, Bool, true, false, List, Option, R
 use Rattle.std.specs.Prelude.{is_err, slice_get, option_and_then, None, Some}
 use Rattle.bz_tree.specs.declared.tree.Found.{Found}
 use Rattle.bz_base.specs.declared.refusals.Refusal.{Refusal}
-use Rattle.board_laws.specs.Works.{Answer, Rules}
+use Rattle.board_laws.specs.Works.{Answer, Rules, Turn}
+use Rattle.bz_base.specs.Counts.{last_count}
+use Rattle.board_work.specs.Turns.{Meaning}
+use Rattle.board_work.specs.declared.events.Parked.{Parked}
+use Rattle.board_work.specs.declared.events.Parked.TheVariants.{Waits, Ready, Refused, Cycle, Stray}
+use Rattle.std.specs.Prelude.{IsSome, length, min}
 use Rattle.board_laws.specs.Results.{IsGiven}
 use Rattle.board_machine.specs.Boards.{Board, Slot}
 use Rattle.board_machine.specs.Events.{result_of}
@@ -37,3 +42,23 @@ outcome_in (Some slot) = result_of slot.state
 abbrev pub job_at : {J V : Type 0} → Option (Slot J Found V Refusal) → Option J
 job_at None = None
 job_at (Some slot) = Some slot.job
+
+-- a worker brings back a part of the job that it holds, whose next need this is, and the steps of
+-- the turn that came to it
+pub record IsAsking {J V : Type 0} (meaning : Meaning J V) (job part_job : J)
+    (answers : List (Answer Found V)) (count : ℕ) (turn : Turn J (List ℕ) V Refusal) (steps : ℕ) :
+    Type 0 where
+  pub turned : part_job ≡ job
+  pub many : length answers ≡ count
+  pub needs : meaning.run job answers ≡ turn
+  pub ticked : steps ≡ min (meaning.ticks job answers) last_count
+
+-- what parking a job on a file comes to
+abbrev pub FileParkGives : {J V E : Type 0} → Bool → Option Found → Account J V → Account J V
+    → Account J V → Result Parked E → Type 0
+FileParkGives held found old new after (Ok Stray) = (held ≡ false) × (new ≡ old)
+FileParkGives held found old new after (Ok Ready) = (held ≡ true) × IsSome found × (new ≡ after)
+FileParkGives held found old new after (Ok Waits) = (held ≡ true) × (found ≡ None) × (new ≡ after)
+FileParkGives held found old new after (Ok Refused) = ⊥
+FileParkGives held found old new after (Ok Cycle) = ⊥
+FileParkGives held found old new after (Err e) = new ≡ old

@@ -1,27 +1,29 @@
 //! The board of a work, on which any number of workers go on.
 ghost use Rattle.std.specs.Prelude.{◌≡◌, true, ℕ, List, Some, is_err, is_some, map, slice_get, option_map};
 ghost use Rattle.std.specs.Prelude.{IfOk, []};
-ghost use Rattle.board_laws.specs.Results.{AllOwn};
+ghost use Rattle.board_laws.specs.Results.{AllOwn, IsGiven};
 ghost use Rattle.board_slots.specs.Views.{bare_rules};
 ghost use Rattle.bz_tree.specs.declared.tree.Found.{Found};
 ghost use Rattle.board_core.specs.Accounts.{IsHalted, ended, noted, opened};
-ghost use Rattle.board_core.specs.Calls.{HappensIf, IsGivenRightly, job_at, outcome_in};
+ghost use Rattle.board_core.specs.Calls.{FileParkGives, HappensIf, IsAsking, IsGivenRightly, job_at, outcome_in};
 ghost use Rattle.board_core.specs.Claims.{ClaimGives};
 ghost use Rattle.board_core.specs.Histories.{IsOutcomeOf, finish_with};
-ghost use Rattle.board_machine.specs.Events.{Finish, Shelve, with_jobs};
-ghost use Rattle.board_machine.specs.Moves.{shelve};
+ghost use Rattle.board_machine.specs.Events.{Finish, Park, Shelve, with_jobs};
+ghost use Rattle.board_machine.specs.Moves.{is_file, park_file, shelve};
+ghost use Rattle.board_laws.specs.Works.{Reads};
+ghost use Rattle.std.specs.List.{position_or_len};
 ghost use Rattle.board_slots.specs.Claims.{is_held};
-ghost use Rattle.board_slots.specs.Needs.{IsFirstOpen, is_open_at};
+ghost use Rattle.board_slots.specs.Needs.{IsFirstOpen, found_in, is_open_at};
 ghost use Rattle.board_slots.specs.Views.{outcome_of};
 ghost use Rattle.board_core.specs.Journals.{event_of};
 ghost use Rattle.std.specs.Option.{option_copied};
 ghost use Rattle.board_work.specs.Turns.{rules_of};
 
 use crate::table::Table;
-use board_work::{BoardOf, Claim, Event, Held, Stop, Work};
+use board_work::{BoardOf, Claim, Event, Held, Parked, Stop, Work};
 use board_slots::Slot;
 use board_slots::jobs::add_job;
-use bz_base::{Mem, Refusal, Seq, TreePath};
+use bz_base::{Mem, OutOfMemory, Refusal, Seq, TreePath};
 use bz_tree::Found;
 use std::alloc::Global;
 use std::marker::{Model, PhantomData};
@@ -67,6 +69,40 @@ impl<W: Work, N: BoardOf<W>> Board<W, N> {
         ensures given { (file : List ℕ → Found) → N.files ≡ Some file → IsGivenRightly (rules_of (W.meaning N.work) file) W.answers_of result }
     {
         self.table.claim(worker)
+    }
+
+    /// Parks a claimed job on a file, or queues it at once with what was found there.
+    pub fn park_on_file(
+        &mut self,
+        work: &W,
+        held: Held<W>,
+        part: W::Part,
+        path: TreePath,
+        spent: u64,
+    ) -> Mem<Parked>
+        requires named { work.now ≡ N.work }
+        requires own { (W.meaning N.work).own held.job ≡ true }
+        requires asking { IsAsking (W.meaning N.work) held.job (W.job_of part) (W.answers_of part) held.answers (Reads path) spent }
+        requires given { (file : List ℕ → Found) → N.files ≡ Some file → IsGiven (rules_of (W.meaning N.work) file) held.job (W.answers_of part) }
+        ensures { FileParkGives (is_held (W.meaning N.work).text held.job held.worker held.answers (slice_get self.old.board.slots held.place)) (found_in (slice_get self.old.board.needs (position_or_len (is_file path) self.old.board.needs))) self.old self.new (ended (Park held.worker held.place (position_or_len (is_file path) self.old.board.needs)) spent (park_file held.place (W.answers_of part) path self.old.board) self.old) result }
+    {
+        if !self.table.holds(work, &held) {
+            return Ok(Parked::Stray);
+        }
+        if held.answers >= u64::MAX {
+            return Err(OutOfMemory);
+        }
+        let need = self.table.file_number(&path);
+        match self.table.found_at(need)? {
+            Some(found) => {
+                self.table.go_on(held, part, need, found, spent)?;
+                Ok(Parked::Ready)
+            }
+            None => {
+                self.table.wait(held, part, need, path, spent)?;
+                Ok(Parked::Waits)
+            }
+        }
     }
 
     /// Ends a claimed job. It is false where the job isn't held, and then nothing changes.

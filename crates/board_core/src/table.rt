@@ -1,13 +1,18 @@
 //! How a board stands, and the events that change it, whatever its work is.
 ghost use Rattle.std.specs.Prelude.{◌≡◌, ◌≤◌, ◌<◌, ◌+◌, [], true, false, Some, IfOk, length};
 ghost use Rattle.std.specs.Prelude.{is_some, slice_get, vec_len, option_map, map};
-ghost use Rattle.board_core.specs.Accounts.{HasRoom, IsEvent, IsHalted, ended, noted};
+ghost use Rattle.board_core.specs.Accounts.{HasRoom, IsEvent, IsHalted, ended, noted, waiting_for_file};
 ghost use Rattle.board_core.specs.Claims.{ClaimGives, IsQueuedAt, IsTakenAt, claim_count};
-ghost use Rattle.board_machine.specs.Events.{Finish, Shelve};
+ghost use Rattle.board_machine.specs.Boards.{Queued};
+ghost use Rattle.board_machine.specs.Events.{Finish, Park, Shelve};
+ghost use Rattle.board_laws.specs.Works;
+ghost use Rattle.std.specs.Arc.{arc_value};
+ghost use Rattle.std.specs.List.{position_or_len};
+ghost use Rattle.std.specs.Prelude.{◌∷◌};
 ghost use Rattle.board_machine.specs.Moves.{finish_refused, finish_value, is_over};
-ghost use Rattle.board_machine.specs.Moves.{shelve};
-ghost use Rattle.board_slots.specs.Claims.{is_held};
-ghost use Rattle.board_slots.specs.Needs.{IsFirstOpen, is_open_at};
+ghost use Rattle.board_machine.specs.Moves.{is_file, set_state, shelve, with_slots};
+ghost use Rattle.board_slots.specs.Claims.{IsReturnedAt, is_held};
+ghost use Rattle.board_slots.specs.Needs.{IsFirstOpen, found_in, is_open_at};
 ghost use Rattle.board_slots.specs.Views.{outcome_of};
 ghost use Rattle.board_core.specs.Calls.{job_at, outcome_in};
 ghost use Rattle.board_core.specs.Journals.{event_of};
@@ -16,9 +21,10 @@ ghost use Rattle.std.specs.Option.{option_copied};
 use crate::journal::Journal;
 use board_slots::handing::{file_gifts, hand_out, refusal_gifts, value_gifts};
 use board_slots::jobs::{are_over, first_queued};
-use board_slots::needs::{answer, is_open_at, wanted};
+use board_slots::needs::{answer, file_number, found_at, is_open_at, want_file, wanted};
+use board_slots::parking::{queue_at, wait_for_file};
 use board_slots::{Slot, Wanted};
-use board_work::{Claim, Event, Held, Stop, Work};
+use board_work::{Claim, Event, Given, Held, Stop, Work};
 use bz_base::{Mem, Refusal, TreePath};
 use bz_tree::Found;
 use std::alloc::Global;
@@ -148,6 +154,74 @@ impl<W: Work> Table<W> {
         });
         self.spent = self.spent.saturating_add(steps);
         Ok(())
+    }
+
+    /// The claimed job goes on at once with what was found at its file.
+    pub fn go_on(
+        &mut self,
+        held: Held<W>,
+        part: W::Part,
+        need: usize,
+        found: Arc<Found>,
+        steps: u64,
+    ) -> Mem<()>
+        requires within { held.place < length self.old.account.board.slots }
+        requires returned { IsReturnedAt W.job_of W.answers_of held part self.old.account.board.slots }
+        ensures { IsEvent self.old self.new (ended (Park held.worker held.place need) steps (with_slots (set_state held.place (Queued (Works.Found (arc_value found) ∷ W.answers_of part)) self.old.account.board.slots) self.old.account.board) self.old.account) result }
+    {
+        let worker = held.worker;
+        let job = held.place;
+        self.journal.make_room(self.slots.len() + 2)?;
+        queue_at(&mut self.slots, held, part, Given::File(found));
+        self.journal.write(Event::Park {
+            worker,
+            job,
+            need: need as u64,
+        });
+        self.spent = self.spent.saturating_add(steps);
+        Ok(())
+    }
+
+    /// The claimed job waits for a file.
+    pub fn wait(
+        &mut self,
+        held: Held<W>,
+        part: W::Part,
+        need: usize,
+        path: TreePath,
+        steps: u64,
+    ) -> Mem<()>
+        requires number { need ≡ position_or_len (is_file path) self.old.account.board.needs }
+        requires within { held.place < length self.old.account.board.slots }
+        requires returned { IsReturnedAt W.job_of W.answers_of held part self.old.account.board.slots }
+        ensures { IsEvent self.old self.new (ended (Park held.worker held.place need) steps (waiting_for_file held.place (W.answers_of part) need path self.old.account.board) self.old.account) result }
+    {
+        let worker = held.worker;
+        let job = held.place;
+        self.journal.make_room(self.slots.len() + 2)?;
+        want_file(&mut self.needs, need, path)?;
+        wait_for_file(&mut self.slots, held, part, need);
+        self.journal.write(Event::Park {
+            worker,
+            job,
+            need: need as u64,
+        });
+        self.spent = self.spent.saturating_add(steps);
+        Ok(())
+    }
+
+    /// The number of a file's need, or that which it would have.
+    pub fn file_number(&self, path: &TreePath) -> usize
+        ensures { result ≡ position_or_len (is_file path.now) self.now.account.board.needs }
+    {
+        file_number(&self.needs, path)
+    }
+
+    /// What was found for a need.
+    pub fn found_at(&self, need: usize) -> Mem<Option<Arc<Found>>>
+        ensures { IfOk result (λ found. option_map arc_value found ≡ found_in (slice_get self.now.account.board.needs need)) }
+    {
+        found_at(&self.needs, need)
     }
 
     /// Whether the need of that number is one of this file, without an answer.

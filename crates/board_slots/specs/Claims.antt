@@ -1,6 +1,6 @@
 -- What is handed out of a queued job, and what is brought back.
 use Rattle.std.specs.Prelude.{ℕ, ◌≡◌, ◌<◌, ◌==◌, ◌&&◌, Bool, false, List, length, Option, Some}
-use Rattle.std.specs.Prelude.{None}
+use Rattle.std.specs.Prelude.{None, slice_get}
 use Rattle.std.specs.Str.{bytes_eq}
 use Rattle.bz_base.specs.declared.refusals.Refusal.{Refusal}
 use Rattle.bz_base.specs.Counts.{last_count}
@@ -55,3 +55,10 @@ abbrev pub is_held : {J A V R : Type 0} → (J → List ℕ) → J → ℕ → �
 is_held text job worker count None = false
 is_held text job worker count (Some slot) =
     is_claimed_by worker count slot.state && bytes_eq (text job) (text slot.job)
+
+-- the same of the job that stands at the place
+abbrev pub IsReturnedAt : {W J P V : Type 0} → (P → J) → (P → List (Answer Found V)) → Held W J P V
+    → P → List (Boards.Slot J Found V Refusal) → Type 0
+IsReturnedAt {J = J} {V = V} job_of answers_of held part slots =
+    (slot : Boards.Slot J Found V Refusal) → slice_get slots held.place ≡ Some slot
+    → IsReturned job_of answers_of slot.job held part
