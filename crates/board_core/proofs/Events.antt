@@ -1,6 +1,6 @@
 -- What an event makes of the fields of a table is what it makes of its account.
-use Rattle.std.proofs.Common.{◌≡◌, ℕ, ◌+◌, ◌<◌, ◌≤◌, Bool, true, false, List, [], ◌∷◌, ◌++◌, length}
-use Rattle.std.proofs.Common.{refl, ap, sym, ◌∙◌, subst, arith, Option, Some, None, slice_get}
+use Rattle.std.proofs.Common.{◌≡◌, ℕ, ◌+◌, ◌<◌, ◌≤◌, Bool, true, List, [], ◌∷◌, ◌++◌, length}
+use Rattle.std.proofs.Common.{refl, ap, ◌∙◌, subst, arith, Option, Some, None, slice_get}
 use Rattle.std.specs.Prelude.{min}
 use Rattle.std.proofs.lemmas.Option.{slice_get_within}
 use Rattle.bz_base.specs.Counts.{last_count}
@@ -58,9 +58,9 @@ module _ {J V : Type 0} where
   ended_of f goals slots new needs halted journal events spent total room made left len old event
       steps view is written counted long enough kept =
       let Goal : Table J V → Type 0 = λ o. (seen goals new needs halted events total
-          ≡ ended event steps
-          (with_slots (map_places (f o.account.board.slots) 0 o.account.board.slots) o.account.board) o.account)
-          × (length (map_places (f o.account.board.slots) 0 o.account.board.slots) + 1 ≤ left) in
+      ≡ ended event steps
+      (with_slots (map_places (f o.account.board.slots) 0 o.account.board.slots) o.account.board) o.account)
+      × (length (map_places (f o.account.board.slots) 0 o.account.board.slots) + 1 ≤ left) in
       let same = length-each (f slots) 0 slots in
       subst Goal view
       (seen_same goals needs halted is written counted, omega (arith, same, long, enough, kept))
@@ -89,20 +89,21 @@ module _ {J V : Type 0} where
   parked_of f g goals slots new needs after halted journal events spent total room made left len old
       event steps view is asked written counted long enough kept =
       let Goal : Table J V → Type 0 = λ o. (seen goals new after halted events total
-          ≡ ended event steps
-          (record {
-            goals = o.account.board.goals;
-            slots = map_places f 0 o.account.board.slots;
-            needs = g o.account.board.needs;
-            halted = o.account.board.halted;
-          }) o.account)
-          × (length (map_places f 0 o.account.board.slots) + 1 ≤ left) in
+      ≡ ended event steps
+      (record {
+        goals = o.account.board.goals;
+        slots = map_places f 0 o.account.board.slots;
+        needs = g o.account.board.needs;
+        halted = o.account.board.halted;
+      }) o.account)
+      × (length (map_places f 0 o.account.board.slots) + 1 ≤ left) in
       let same = length-each f 0 slots in
-      subst Goal view
-      (seen_same goals after halted is written counted
-      ∙ ap (λ ns. seen goals (map_places f 0 slots) ns halted (journal ++ event ∷ [])
-      (min (spent + steps) last_count)) asked,
-      omega (arith, same, long, enough, kept))
+      subst Goal view (
+        seen_same goals after halted is written counted
+            ∙ ap (λ ns. seen goals (map_places f 0 slots) ns halted (journal ++ event ∷ [])
+            (min (spent + steps) last_count)) asked,
+        omega (arith, same, long, enough, kept),
+      )
 
   -- an event that ends no turn
   pub noted_of : (f : ℕ → Slot J Found V Refusal → Slot J Found V Refusal)
@@ -127,19 +128,20 @@ module _ {J V : Type 0} where
   noted_of f g goals slots new needs after halted journal events spent room made left len old event
       view is asked written long enough kept =
       let Goal : Table J V → Type 0 = λ o. (seen goals new after halted events spent
-          ≡ noted event
-          (record {
-            goals = o.account.board.goals;
-            slots = map_places f 0 o.account.board.slots;
-            needs = g o.account.board.needs;
-            halted = o.account.board.halted;
-          }) o.account)
-          × (length (map_places f 0 o.account.board.slots) + 1 ≤ left) in
+      ≡ noted event
+      (record {
+        goals = o.account.board.goals;
+        slots = map_places f 0 o.account.board.slots;
+        needs = g o.account.board.needs;
+        halted = o.account.board.halted;
+      }) o.account)
+      × (length (map_places f 0 o.account.board.slots) + 1 ≤ left) in
       let same = length-each f 0 slots in
-      subst Goal view
-      (seen_same goals after halted is written refl
-      ∙ ap (λ ns. seen goals (map_places f 0 slots) ns halted (journal ++ event ∷ []) spent) asked,
-      omega (arith, same, long, enough, kept))
+      subst Goal view (
+        seen_same goals after halted is written refl
+            ∙ ap (λ ns. seen goals (map_places f 0 slots) ns halted (journal ++ event ∷ []) spent) asked,
+        omega (arith, same, long, enough, kept),
+      )
 
   -- memory ran out, where room had been made
   pub unchanged_of : (goals : ℕ) (slots : List (Slot J Found V Refusal))
@@ -150,7 +152,7 @@ module _ {J V : Type 0} where
       → (seen goals slots needs halted events spent ≡ old.account) × (old.room ≤ left)
   unchanged_of goals slots needs halted journal events spent room left old view same less =
       let Goal : Table J V → Type 0 = λ o. (seen goals slots needs halted events spent ≡ o.account)
-          × (o.room ≤ left) in
+      × (o.room ≤ left) in
       subst Goal view (seen_same goals needs halted refl same refl, less)
 
 pub open_within : (path : List ℕ) (needs : List (Needed Found)) (need : ℕ)

@@ -1,5 +1,5 @@
 -- A job that parks on a file is an event of the board.
-use Rattle.std.proofs.Common.{◌≡◌, ℕ, ◌+◌, ◌<◌, ◌≤◌, Bool, true, false, List, [], ◌∷◌, ◌++◌, length}
+use Rattle.std.proofs.Common.{◌≡◌, ℕ, ◌+◌, ◌<◌, ◌≤◌, true, List, [], ◌∷◌, ◌++◌, length}
 use Rattle.std.proofs.Common.{refl, ap, sym, ◌∙◌, subst, arith, Option, Some, None, slice_get}
 use Rattle.std.specs.Prelude.{if◌then◌else◌, min, nat_lt}
 use Rattle.std.specs.List.{position_or_len}
@@ -38,7 +38,7 @@ found_stands path needs need found is h = go (slice_get needs need) refl h
     go (Some one) e h =
         let less = slice_get_within needs need one e in
         let below : nat_lt (position_or_len (is_file path) needs) (length needs) ≡ true =
-            grind (arith, nat_tests, less, is) in
+        grind (arith, nat_tests, less, is) in
         ap (λ b. if b then needs else needs ++ File path None ∷ []) below
 
 module _ {J V : Type 0} where

@@ -1,8 +1,8 @@
 -- What the calls of a board keep.
-use Rattle.std.proofs.Common.{◌≡◌, ℕ, suc, ◌+◌, ◌<◌, ◌≤◌, ◌==◌, Bool, true, false, List, [], ◌∷◌}
+use Rattle.std.proofs.Common.{◌≡◌, ℕ, suc, ◌+◌, ◌≤◌, ◌==◌, Bool, true, false, List, [], ◌∷◌}
 use Rattle.std.proofs.Common.{◌++◌, length, refl, ap, sym, ◌∙◌, subst, arith, Option, Some, None}
 use Rattle.std.proofs.Common.{slice_get, slice_set, zero, Result, Ok, Err}
-use Rattle.std.specs.Prelude.{IfSome, count_by, ◌&&◌, min, is_err, if◌then◌else◌, MatchBool}
+use Rattle.std.specs.Prelude.{IfSome, ◌&&◌, min, is_err, if◌then◌else◌, MatchBool}
 use Rattle.std.specs.Str.{bytes_eq}
 use Rattle.std.proofs.lemmas.Bool.Decides.{nat_tests}
 use Rattle.bz_base.specs.Counts.{last_count}
@@ -19,7 +19,6 @@ use Rattle.board_machine.specs.Boards
 use Rattle.board_machine.specs.Events.{Event, Holds, Kept, Step, values, refuses, claims, shelves}
 use Rattle.board_machine.specs.Events.{halts, with_jobs}
 use Rattle.board_machine.specs.Events
-use Rattle.board_machine.specs.Kept.{IsLinked}
 use Rattle.board_machine.specs.Moves.{claim, count_in, first_queued, halt, is_queued, set_state}
 use Rattle.board_machine.specs.Moves.{shelve, state_in}
 use Rattle.board_machine.proofs.Slots.{put-set}
@@ -33,9 +32,9 @@ use Rattle.board_machine.proofs.Links.{hand_file_linked, set_state_linked, sprea
 use Rattle.board_machine.proofs.Whole.{begin_kept}
 use Rattle.board_slots.specs.Claims.{is_claimed_by, is_held}
 use Rattle.board_work.specs.Turns.{Meaning, rules_of}
-use Rattle.board_core.specs.Accounts.{HasRoom, IsEvent, IsHalted, Table, ended, noted, opened, queued_count}
+use Rattle.board_core.specs.Accounts.{IsHalted, Table, ended, noted, opened, queued_count}
 use Rattle.board_core.specs.Histories.{IsHistory, IsKept, IsLinkedFor, IsOutcomeOf, finish_with}
-use Rattle.board_core.specs.Histories.{happens, opening, spent_after}
+use Rattle.board_core.specs.Histories.{happens, opening}
 
 -- what the machine keeps holds after any history
 pub history_kept : {J A V R : Type 0} (rules : Rules J (List ℕ) A V R)
@@ -57,49 +56,49 @@ queued_few (slot ∷ slots) = go (is_queued slot.state) (queued_few slots)
     go false h = omega arith
 
 module _ {J V : Type 0} (meaning : Meaning J V) (files : Option (List ℕ → Found)) (goals : List J)
-    where
-  pub told_history : (file : List ℕ → Found) (table : Table J V) → files ≡ Some file
-      → IsKept meaning files goals table
-      → IsHistory (rules_of meaning file) meaning.ticks goals table.account.journal
-      table.account.board table.account.spent
-  told_history file table e kept =
-      subst (λ o. IfSome o (λ file. IsHistory (rules_of meaning file) meaning.ticks goals
-      table.account.journal table.account.board table.account.spent)) e kept.history
+  where
+    pub told_history : (file : List ℕ → Found) (table : Table J V) → files ≡ Some file
+        → IsKept meaning files goals table
+        → IsHistory (rules_of meaning file) meaning.ticks goals table.account.journal
+        table.account.board table.account.spent
+    told_history file table e kept =
+        subst (λ o. IfSome o (λ file. IsHistory (rules_of meaning file) meaning.ticks goals
+        table.account.journal table.account.board table.account.spent)) e kept.history
 
-  -- memory ran out
-  pub unchanged_kept : (old new : Table J V) → new.account ≡ old.account → old.room ≤ new.room
-      → IsKept meaning files goals old → IsKept meaning files goals new
-  unchanged_kept old new same more kept =
-      record {
-        linked = subst (λ a. IsLinkedFor meaning a.board.slots) (sym same) kept.linked;
-        history =
-            subst (λ a. IfSome files (λ file. IsHistory (rules_of meaning file) meaning.ticks goals
-            a.journal a.board a.spent)) (sym same) kept.history;
-        room =
-            subst (λ a. a.board.halted ≡ false → queued_count a.board.slots + 1 ≤ new.room) (sym same)
-            (λ going. let room = kept.room going in omega arith);
-      }
+    -- memory ran out
+    pub unchanged_kept : (old new : Table J V) → new.account ≡ old.account → old.room ≤ new.room
+        → IsKept meaning files goals old → IsKept meaning files goals new
+    unchanged_kept old new same more kept =
+        record {
+          linked = subst (λ a. IsLinkedFor meaning a.board.slots) (sym same) kept.linked;
+          history =
+              subst (λ a. IfSome files (λ file. IsHistory (rules_of meaning file) meaning.ticks goals
+              a.journal a.board a.spent)) (sym same) kept.history;
+          room =
+              subst (λ a. a.board.halted ≡ false → queued_count a.board.slots + 1 ≤ new.room) (sym same)
+              (λ going. let room = kept.room going in omega arith);
+        }
 
-  -- an event, where it is one of the machine's
-  pub event_kept : (old new : Table J V) (event : Event)
-      → IsLinkedFor meaning new.account.board.slots
-      → length new.account.board.slots + 1 ≤ new.room
-      → ((file : List ℕ → Found) → files ≡ Some file
-      → IsHistory (rules_of meaning file) meaning.ticks goals new.account.journal
-      new.account.board new.account.spent)
-      → IsKept meaning files goals new
-  event_kept old new event linked room history =
-      record {
-        linked = linked;
-        history = go files refl;
-        room = λ going. let few = queued_few new.account.board.slots in omega arith;
-      }
-    where
-      go : (o : Option (List ℕ → Found)) → files ≡ o
-          → IfSome o (λ file. IsHistory (rules_of meaning file) meaning.ticks goals
-          new.account.journal new.account.board new.account.spent)
-      go None e = tt
-      go (Some file) e = history file e
+    -- an event, where it is one of the machine's
+    pub event_kept : (old new : Table J V) (event : Event)
+        → IsLinkedFor meaning new.account.board.slots
+        → length new.account.board.slots + 1 ≤ new.room
+        → ((file : List ℕ → Found) → files ≡ Some file
+        → IsHistory (rules_of meaning file) meaning.ticks goals new.account.journal
+        new.account.board new.account.spent)
+        → IsKept meaning files goals new
+    event_kept old new event linked room history =
+        record {
+          linked = linked;
+          history = go files refl;
+          room = λ going. let few = queued_few new.account.board.slots in omega arith;
+        }
+      where
+        go : (o : Option (List ℕ → Found)) → files ≡ o
+            → IfSome o (λ file. IsHistory (rules_of meaning file) meaning.ticks goals
+            new.account.journal new.account.board new.account.spent)
+        go None e = tt
+        go (Some file) e = history file e
 
 both_true : (a b : Bool) → (a && b) ≡ true → (a ≡ true) × (b ≡ true)
 both_true true true e = (refl, refl)
@@ -133,7 +132,7 @@ held_stands {J} {A} {V} {R} text job worker count place slots e = go (slice_get 
     go None h f = absurd (cc)
     go (Some slot) h f =
         let r = both_true (is_claimed_by worker count slot.state)
-            (bytes_eq (text job) (text slot.job)) f in
+        (bytes_eq (text job) (text slot.job)) f in
         (slot, h, claimed_is worker count slot.state r.0, text_same (text job) (text slot.job) r.1)
 
 -- steps that were counted up to the last count
@@ -377,11 +376,11 @@ pub opened_kept : {J V : Type 0} (meaning : Meaning J V) (files : Option (List �
     → IsKept meaning files goals new
 opened_kept {J} {V} meaning files goals slots new own jobs is room =
     let made : new.account ≡ opened (bare_rules meaning) goals =
-        is ∙ ap (λ xs. record {
-          board = record { goals = length xs; slots = xs; needs = []; halted = false };
-          journal = [];
-          spent = 0;
-        }) jobs in
+    is ∙ ap (λ xs. record {
+      board = record { goals = length xs; slots = xs; needs = []; halted = false };
+      journal = [];
+      spent = 0;
+    }) jobs in
     event_kept meaning files goals new new Events.Halt
     (subst (λ a. IsLinkedFor meaning a.board.slots) (sym made)
     (begin_kept (bare_rules meaning) goals own).linked)

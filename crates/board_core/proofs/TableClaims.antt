@@ -1,6 +1,6 @@
 -- A claim of the first queued job is the machine's.
-use Rattle.std.proofs.Common.{◌≡◌, ◌≢◌, ℕ, ◌+◌, ◌<◌, ◌≤◌, true, false, List, [], ◌∷◌, ◌++◌, length}
-use Rattle.std.proofs.Common.{refl, ap, sym, ◌∙◌, subst, arith, Some, slice_get, slice_set, ◌⊎◌}
+use Rattle.std.proofs.Common.{◌≡◌, ◌≢◌, ℕ, ◌<◌, true, false, List, [], ◌∷◌, ◌++◌, length}
+use Rattle.std.proofs.Common.{refl, ap, sym, ◌∙◌, subst, Some, slice_get, slice_set, ◌⊎◌}
 use Rattle.std.proofs.Common.{inl, inr}
 use Rattle.std.proofs.lemmas.Option.{slice_get_within}
 use Rattle.bz_base.specs.declared.refusals.Refusal.{Refusal}
@@ -14,8 +14,7 @@ use Rattle.board_machine.specs.Moves.{set_state, state_in, with_slots}
 use Rattle.board_machine.proofs.Slots.{position_found, put-set}
 use Rattle.board_work.specs.declared.worker.Claim.{Claim}
 use Rattle.board_work.specs.declared.worker.Claim.TheVariants.{Job, Nothing, Finished}
-use Rattle.board_work.specs.declared.worker.Held.{Held}
-use Rattle.board_slots.specs.Claims.{IsHandedOut, IsTaken}
+use Rattle.board_slots.specs.Claims.{IsTaken}
 use Rattle.board_slots.specs.Views.{queued_answers}
 use Rattle.board_core.specs.Accounts.{Account, noted}
 use Rattle.board_core.specs.Claims.{ClaimGives, IsQueuedAt, IsTakenAt, claim_count}
@@ -72,11 +71,11 @@ module _ {J V : Type 0} where
       let slots = account.board.slots in
       let place = first_queued slots in
       let counted : count_in (state_in (slice_get slots place)) ≡ count =
-          ap (λ o. count_in (state_in o)) stands ∙ ap count_in queued ∙ many in
+      ap (λ o. count_in (state_in o)) stands ∙ ap count_in queued ∙ many in
       let put : new ≡ set_state place (Claimed worker (count_in (state_in (slice_get slots place)))) slots =
-          is ∙ ap (slice_set slots place) claimed
-          ∙ ap (λ n. slice_set slots place (record { job = slot.job; state = Claimed worker n })) (sym counted)
-          ∙ sym (put-set (λ one. record { job = one.job; state = Claimed worker (count_in (state_in (slice_get slots place))) }) slots place slot stands) in
+      is ∙ ap (slice_set slots place) claimed
+      ∙ ap (λ n. slice_set slots place (record { job = slot.job; state = Claimed worker n })) (sym counted)
+      ∙ sym (put-set (λ one. record { job = one.job; state = Claimed worker (count_in (state_in (slice_get slots place))) }) slots place slot stands) in
       ap (λ xs. seen xs events) put ∙ ap (seen (set_state place (Claimed worker (count_in (state_in (slice_get slots place)))) slots)) written
     where
       seen : List (Slot J Found V Refusal) → List Event → Account J V

@@ -1,5 +1,5 @@
 -- What contracts see of a board: how it stands, what happened on it, and the steps spent.
-use Rattle.std.specs.Prelude.{ℕ, ◌+◌, ◌≤◌, List, [], ◌∷◌, ◌++◌, Bool, true, false, ◌≡◌, min, suc}
+use Rattle.std.specs.Prelude.{ℕ, ◌+◌, ◌≤◌, List, [], ◌∷◌, ◌++◌, ◌≡◌, min, suc}
 use Rattle.std.specs.Prelude.{Result, Ok, Err, MatchBool, None, length, if◌then◌else◌}
 use Rattle.bz_base.specs.declared.refusals.Refusal.{Refusal}
 use Rattle.bz_base.specs.Counts.{last_count}

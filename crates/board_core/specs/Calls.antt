@@ -1,6 +1,6 @@
 -- What the calls of a board give.
-use Rattle.std.specs.Prelude.{ℕ, ◌≡◌, Bool, true, false, List, Option, Result, Ok, Err, IfSome}
-use Rattle.std.specs.Prelude.{is_err, slice_get, option_and_then, None, Some}
+use Rattle.std.specs.Prelude.{ℕ, ◌≡◌, Bool, true, false, List, Option, Result, Ok, Err}
+use Rattle.std.specs.Prelude.{None, Some}
 use Rattle.bz_tree.specs.declared.tree.Found.{Found}
 use Rattle.bz_base.specs.declared.refusals.Refusal.{Refusal}
 use Rattle.board_laws.specs.Works.{Answer, Rules, Turn}
@@ -10,7 +10,7 @@ use Rattle.board_work.specs.declared.events.Parked.{Parked}
 use Rattle.board_work.specs.declared.events.Parked.TheVariants.{Waits, Ready, Refused, Cycle, Stray}
 use Rattle.std.specs.Prelude.{IsSome, length, min}
 use Rattle.board_laws.specs.Results.{IsGiven}
-use Rattle.board_machine.specs.Boards.{Board, Slot}
+use Rattle.board_machine.specs.Boards.{Slot}
 use Rattle.board_machine.specs.Events.{result_of}
 use Rattle.board_work.specs.declared.worker.Claim.{Claim}
 use Rattle.board_work.specs.declared.worker.Claim.TheVariants.{Job, Nothing, Finished}

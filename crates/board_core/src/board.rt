@@ -20,9 +20,9 @@ ghost use Rattle.std.specs.Option.{option_copied};
 ghost use Rattle.board_work.specs.Turns.{rules_of};
 
 use crate::table::Table;
-use board_work::{BoardOf, Claim, Event, Held, Parked, Stop, Work};
 use board_slots::Slot;
 use board_slots::jobs::add_job;
+use board_work::{BoardOf, Claim, Event, Held, Parked, Stop, Work};
 use bz_base::{Mem, OutOfMemory, Refusal, Seq, TreePath};
 use bz_tree::Found;
 use std::alloc::Global;

@@ -1,4 +1,4 @@
-use Rattle.std.proofs.Common.{◌≡◌, ◌∙◌, [], ap, sym}
+use Rattle.std.proofs.Common.{◌∙◌, [], ap}
 use Rattle.board_machine.specs.Events.{with_jobs}
 use Rattle.board_slots.specs.Views.{bare_rules}
 use Rattle.board_core.proofs.Keeping.{opened_kept}

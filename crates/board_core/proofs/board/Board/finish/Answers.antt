@@ -1,4 +1,4 @@
-use Rattle.std.proofs.Common.{◌≡◌, ◌∙◌, ap, sym, subst, true, slice_get, Ok, Err}
+use Rattle.std.proofs.Common.{◌∙◌, ap, sym, subst, slice_get, Ok, Err}
 use Rattle.board_slots.specs.Claims.{is_held}
 use Rattle.board_work.specs.Turns.{rules_of}
 use Rattle.board_core.specs.Histories.{IsOutcomeOf}

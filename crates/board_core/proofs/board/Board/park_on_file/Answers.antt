@@ -20,8 +20,8 @@ go_on-requires-clause-returned g c κs within =
     let slots = account.board.slots in
     let needs = account.board.needs in
     let is_so : is_held meaning.text held.job held.worker held.answers (slice_get slots held.place) ≡ true =
-        ap (λ w. is_held (g.W.Work.meaning w).text held.job held.worker held.answers (slice_get slots held.place)) (sym c.requires.named)
-        ∙ sym c.holds.ensures ∙ c.if-not-holds.false in
+    ap (λ w. is_held (g.W.Work.meaning w).text held.job held.worker held.answers (slice_get slots held.place)) (sym c.requires.named)
+    ∙ sym c.holds.ensures ∙ c.if-not-holds.false in
     λ slot stands.
     let same = job_there meaning g.N.BoardOf.files g.N.BoardOf.goals (λ file. (g.met.W.Work g.world.𝓛 g.world.𝓜 g.world.𝓡 ((λ s x. x), (λ x. x), (λ x. x), λ x. x)).lawful g.N.BoardOf.work file) slots held.job held.worker held.answers held.place is_so c.requires.own c.self.invariant.linked slot stands in
     record {
@@ -40,8 +40,8 @@ wait-requires-clause-returned g c κs within =
     let slots = account.board.slots in
     let needs = account.board.needs in
     let is_so : is_held meaning.text held.job held.worker held.answers (slice_get slots held.place) ≡ true =
-        ap (λ w. is_held (g.W.Work.meaning w).text held.job held.worker held.answers (slice_get slots held.place)) (sym c.requires.named)
-        ∙ sym c.holds.ensures ∙ c.if-not-holds.false in
+    ap (λ w. is_held (g.W.Work.meaning w).text held.job held.worker held.answers (slice_get slots held.place)) (sym c.requires.named)
+    ∙ sym c.holds.ensures ∙ c.if-not-holds.false in
     λ slot stands.
     let same = job_there meaning g.N.BoardOf.files g.N.BoardOf.goals (λ file. (g.met.W.Work g.world.𝓛 g.world.𝓜 g.world.𝓡 ((λ s x. x), (λ x. x), (λ x. x), λ x. x)).lawful g.N.BoardOf.work file) slots held.job held.worker held.answers held.place is_so c.requires.own c.self.invariant.linked slot stands in
     record {
@@ -60,8 +60,8 @@ wait-requires-clause-within g c κs within =
     let slots = account.board.slots in
     let needs = account.board.needs in
     let is_so : is_held meaning.text held.job held.worker held.answers (slice_get slots held.place) ≡ true =
-        ap (λ w. is_held (g.W.Work.meaning w).text held.job held.worker held.answers (slice_get slots held.place)) (sym c.requires.named)
-        ∙ sym c.holds.ensures ∙ c.if-not-holds.false in
+    ap (λ w. is_held (g.W.Work.meaning w).text held.job held.worker held.answers (slice_get slots held.place)) (sym c.requires.named)
+    ∙ sym c.holds.ensures ∙ c.if-not-holds.false in
     held_within meaning.text held.job held.worker held.answers held.place slots is_so
 
 pub invariant_of-self-in-Some-1 : goal.invariant_of-self-in-Some-1
@@ -73,16 +73,16 @@ invariant_of-self-in-Some-1 g c =
     let slots = account.board.slots in
     let needs = account.board.needs in
     let is_so : is_held meaning.text held.job held.worker held.answers (slice_get slots held.place) ≡ true =
-        ap (λ w. is_held (g.W.Work.meaning w).text held.job held.worker held.answers (slice_get slots held.place)) (sym c.requires.named)
-        ∙ sym c.holds.ensures ∙ c.if-not-holds.false in
+    ap (λ w. is_held (g.W.Work.meaning w).text held.job held.worker held.answers (slice_get slots held.place)) (sym c.requires.named)
+    ∙ sym c.holds.ensures ∙ c.if-not-holds.false in
     let need : c.file_number-need.result ≡ position_or_len (is_file c.args.path) needs = c.file_number-need.ensures in
     let found : Some (arc_value c.in-Some.found) ≡ found_in (slice_get needs c.file_number-need.result) =
-        ap (option_map arc_value) (sym c.in-Some.is) ∙ c.in_ok-found.ensures in
+    ap (option_map arc_value) (sym c.in-Some.is) ∙ c.in_ok-found.ensures in
     let parked = answered_is held.place answers c.file_number-need.result c.args.path (arc_value c.in-Some.found) account.board need found in
     let event : c.go_on.new.self.account ≡ ended (Events.Park held.worker held.place (position_or_len (is_file c.args.path) needs)) c.args.spent (park_file held.place answers c.args.path account.board) account =
-        c.in_ok-go_on-in-Some.ensures.0
-        ∙ ap (λ b. ended (Events.Park held.worker held.place c.file_number-need.result) c.args.spent b account) parked
-        ∙ ap (λ n. ended (Events.Park held.worker held.place n) c.args.spent (park_file held.place answers c.args.path account.board) account) need in
+    c.in_ok-go_on-in-Some.ensures.0
+    ∙ ap (λ b. ended (Events.Park held.worker held.place c.file_number-need.result) c.args.spent b account) parked
+    ∙ ap (λ n. ended (Events.Park held.worker held.place n) c.args.spent (park_file held.place answers c.args.path account.board) account) need in
     file_parked_kept meaning g.N.BoardOf.files g.N.BoardOf.goals
     (λ file. (g.met.W.Work g.world.𝓛 g.world.𝓜 g.world.𝓡 ((λ s x. x), (λ x. x), (λ x. x), λ x. x)).lawful g.N.BoardOf.work file)
     c.self.inside.table c.go_on.new.self held.job held.worker held.answers held.place c.args.spent
@@ -100,16 +100,16 @@ invariant_of-self-in-None g c =
     let slots = account.board.slots in
     let needs = account.board.needs in
     let is_so : is_held meaning.text held.job held.worker held.answers (slice_get slots held.place) ≡ true =
-        ap (λ w. is_held (g.W.Work.meaning w).text held.job held.worker held.answers (slice_get slots held.place)) (sym c.requires.named)
-        ∙ sym c.holds.ensures ∙ c.if-not-holds.false in
+    ap (λ w. is_held (g.W.Work.meaning w).text held.job held.worker held.answers (slice_get slots held.place)) (sym c.requires.named)
+    ∙ sym c.holds.ensures ∙ c.if-not-holds.false in
     let need : c.file_number-need.result ≡ position_or_len (is_file c.args.path) needs = c.file_number-need.ensures in
     let none : None ≡ found_in (slice_get needs c.file_number-need.result) =
-        ap (option_map arc_value) (sym c.in-None.is) ∙ c.in_ok-found.ensures in
+    ap (option_map arc_value) (sym c.in-None.is) ∙ c.in_ok-found.ensures in
     let parked = waiting_is held.place answers c.file_number-need.result c.args.path account.board need none in
     let event : c.wait.new.self.account ≡ ended (Events.Park held.worker held.place (position_or_len (is_file c.args.path) needs)) c.args.spent (park_file held.place answers c.args.path account.board) account =
-        c.in_ok-wait-in-None.ensures.0
-        ∙ ap (λ b. ended (Events.Park held.worker held.place c.file_number-need.result) c.args.spent b account) parked
-        ∙ ap (λ n. ended (Events.Park held.worker held.place n) c.args.spent (park_file held.place answers c.args.path account.board) account) need in
+    c.in_ok-wait-in-None.ensures.0
+    ∙ ap (λ b. ended (Events.Park held.worker held.place c.file_number-need.result) c.args.spent b account) parked
+    ∙ ap (λ n. ended (Events.Park held.worker held.place n) c.args.spent (park_file held.place answers c.args.path account.board) account) need in
     file_parked_kept meaning g.N.BoardOf.files g.N.BoardOf.goals
     (λ file. (g.met.W.Work g.world.𝓛 g.world.𝓜 g.world.𝓡 ((λ s x. x), (λ x. x), (λ x. x), λ x. x)).lawful g.N.BoardOf.work file)
     c.self.inside.table c.wait.new.self held.job held.worker held.answers held.place c.args.spent
@@ -127,19 +127,17 @@ returns-in_ok-go_on-in-Some g c =
     let slots = account.board.slots in
     let needs = account.board.needs in
     let is_so : is_held meaning.text held.job held.worker held.answers (slice_get slots held.place) ≡ true =
-        ap (λ w. is_held (g.W.Work.meaning w).text held.job held.worker held.answers (slice_get slots held.place)) (sym c.requires.named)
-        ∙ sym c.holds.ensures ∙ c.if-not-holds.false in
+    ap (λ w. is_held (g.W.Work.meaning w).text held.job held.worker held.answers (slice_get slots held.place)) (sym c.requires.named)
+    ∙ sym c.holds.ensures ∙ c.if-not-holds.false in
     let need : c.file_number-need.result ≡ position_or_len (is_file c.args.path) needs = c.file_number-need.ensures in
     let found : Some (arc_value c.in-Some.found) ≡ found_in (slice_get needs c.file_number-need.result) =
-        ap (option_map arc_value) (sym c.in-Some.is) ∙ c.in_ok-found.ensures in
+    ap (option_map arc_value) (sym c.in-Some.is) ∙ c.in_ok-found.ensures in
     let parked = answered_is held.place answers c.file_number-need.result c.args.path (arc_value c.in-Some.found) account.board need found in
     let event : c.go_on.new.self.account ≡ ended (Events.Park held.worker held.place (position_or_len (is_file c.args.path) needs)) c.args.spent (park_file held.place answers c.args.path account.board) account =
-        c.in_ok-go_on-in-Some.ensures.0
-        ∙ ap (λ b. ended (Events.Park held.worker held.place c.file_number-need.result) c.args.spent b account) parked
-        ∙ ap (λ n. ended (Events.Park held.worker held.place n) c.args.spent (park_file held.place answers c.args.path account.board) account) need in
-    (
+    c.in_ok-go_on-in-Some.ensures.0
+    ∙ ap (λ b. ended (Events.Park held.worker held.place c.file_number-need.result) c.args.spent b account) parked
+    ∙ ap (λ n. ended (Events.Park held.worker held.place n) c.args.spent (park_file held.place answers c.args.path account.board) account) need in (
       ap (λ a. is_held meaning.text held.job held.worker held.answers (slice_get a.board.slots held.place)) (sym c.self.view_is) ∙ is_so,
       subst IsSome (found ∙ ap (λ n. found_in (slice_get needs n)) need ∙ ap (λ a. found_in (slice_get a.board.needs (position_or_len (is_file c.args.path) a.board.needs))) c.self.view_is) refl,
       event ∙ ap (λ a. ended (Events.Park held.worker held.place (position_or_len (is_file c.args.path) a.board.needs)) c.args.spent (park_file held.place answers c.args.path a.board) a) c.self.view_is,
     )
-

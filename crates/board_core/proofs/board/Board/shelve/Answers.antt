@@ -13,7 +13,7 @@ pub invariant_of-self-2 : goal.invariant_of-self-2
 invariant_of-self-2 g c =
     let needs = c.self.inside.table.account.board.needs in
     let unanswered : is_open_at c.args.path.now (slice_get needs c.args.need) ≡ true =
-        sym c.is_open_at.ensures ∙ c.if-not-is_open_at.false in
+    sym c.is_open_at.ensures ∙ c.if-not-is_open_at.false in
     shelved_kept (g.W.Work.meaning g.N.BoardOf.work) g.N.BoardOf.files g.N.BoardOf.goals
     (λ file. (g.met.W.Work g.world.𝓛 g.world.𝓜 g.world.𝓡 ((λ s x. x), (λ x. x), (λ x. x), λ x. x)).lawful g.N.BoardOf.work file)
     c.self.inside.table c.shelve.new.self c.args.need c.args.path.now c.args.found

@@ -1,19 +1,17 @@
-use Rattle.std.proofs.Common.{◌≡◌, ◌==◌, ◌∙◌, ◌++◌, ◌∷◌, [], ap, sym, length, rules}
-use Rattle.std.specs.Prelude.{if◌then◌else◌, is_some, true, false}
-use Rattle.std.specs.Arc.{arc_value}
-use Rattle.board_machine.specs.Boards.{RefusedWith, Valued, way_to}
+use Rattle.std.proofs.Common.{◌∙◌, ◌++◌, ◌∷◌, [], ap, sym, rules}
+use Rattle.std.specs.Prelude.{if◌then◌else◌, is_some, true}
+use Rattle.board_machine.specs.Boards.{RefusedWith, way_to}
 use Rattle.board_machine.specs.Events
-use Rattle.board_machine.specs.Moves.{hand_file, shelve_need, shelved_state, spread_refusal}
-use Rattle.board_machine.specs.Moves.{with_value, woken_state}
+use Rattle.board_machine.specs.Moves.{spread_refusal}
 use Rattle.board_slots.specs.Views.{handed}
-use Rattle.board_core.proofs.Events.{ended_of, goals_kept, noted_of, open_within, unchanged_of}
+use Rattle.board_core.proofs.Events.{ended_of, goals_kept}
 use Rattle.board_core.proofs.table.Table.finish_refused.Goals as goal
 
 pub invariant_of-self-2 : goal.invariant_of-self-2
 invariant_of-self-2 g c =
     goals_kept (λ at slot.
-      if is_some (way_to c.self.inside.slots.items c.args.place at)
-      then record { job = slot.job; state = RefusedWith c.args.refusal } else slot)
+    if is_some (way_to c.self.inside.slots.items c.args.place at)
+    then record { job = slot.job; state = RefusedWith c.args.refusal } else slot)
     c.self.inside.goals c.self.inside.slots.items c.hand_out.new.slots.items
     (c.hand_out.ensures ∙ ap (handed c.in_ok-gifts.gifts.items) (sym c.deref.ensures.value)
     ∙ c.in_ok-gifts.ensures.handed
@@ -23,8 +21,8 @@ invariant_of-self-2 g c =
 pub returns : goal.returns
 returns g c =
     ended_of (λ slots at slot.
-      if is_some (way_to slots c.args.place at)
-      then record { job = slot.job; state = RefusedWith c.args.refusal } else slot)
+    if is_some (way_to slots c.args.place at)
+    then record { job = slot.job; state = RefusedWith c.args.refusal } else slot)
     c.self.inside.goals c.self.inside.slots.items c.hand_out.new.slots.items
     c.self.inside.needs.items (is_some c.self.inside.stop) c.self.inside.journal.events
     c.write.new.self.events c.self.inside.spent c.saturating_add-self-inside.result

@@ -1,10 +1,9 @@
-use Rattle.std.proofs.Common.{◌≡◌, ◌==◌, ◌∙◌, ◌++◌, ◌∷◌, [], ap, refl, sym, subst, length, rules}
-use Rattle.std.specs.Prelude.{if◌then◌else◌, is_some, None}
+use Rattle.std.proofs.Common.{◌==◌, ◌∙◌, ◌++◌, ◌∷◌, [], ap, refl, sym, subst, rules}
+use Rattle.std.specs.Prelude.{if◌then◌else◌, is_some}
 use Rattle.std.specs.Arc.{arc_value}
 use Rattle.board_laws.specs.Works
-use Rattle.board_machine.specs.Boards.{File, OnFile, Queued}
+use Rattle.board_machine.specs.Boards.{Queued}
 use Rattle.board_machine.specs.Events
-use Rattle.board_machine.specs.Moves.{is_file, with_need}
 use Rattle.board_slots.specs.Claims.{IsReturnedAt}
 use Rattle.board_core.proofs.Events.{goals_kept, parked_of}
 use Rattle.board_core.proofs.table.Table.go_on.Goals as goal
@@ -12,14 +11,14 @@ use Rattle.board_core.proofs.table.Table.go_on.Goals as goal
 pub invariant_of-self-2 : goal.invariant_of-self-2
 invariant_of-self-2 g c =
     goals_kept (λ at slot.
-      if at == c.args.held.place then record { job = slot.job; state = Queued (Works.Found (arc_value c.args.found) ∷ g.W.Work.answers_of c.args.part) } else slot)
+    if at == c.args.held.place then record { job = slot.job; state = Queued (Works.Found (arc_value c.args.found) ∷ g.W.Work.answers_of c.args.part) } else slot)
     c.self.inside.goals c.self.inside.slots.items c.queue_at.new.slots.items
     c.queue_at.ensures c.self.invariant
 
 pub returns : goal.returns
 returns g c =
     parked_of (λ at slot.
-      if at == c.args.held.place then record { job = slot.job; state = Queued (Works.Found (arc_value c.args.found) ∷ g.W.Work.answers_of c.args.part) } else slot) (λ needs. needs)
+    if at == c.args.held.place then record { job = slot.job; state = Queued (Works.Found (arc_value c.args.found) ∷ g.W.Work.answers_of c.args.part) } else slot) (λ needs. needs)
     c.self.inside.goals c.self.inside.slots.items c.queue_at.new.slots.items
     c.self.inside.needs.items c.self.inside.needs.items
     (is_some c.self.inside.stop) c.self.inside.journal.events

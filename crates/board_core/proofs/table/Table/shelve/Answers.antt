@@ -1,12 +1,9 @@
-use Rattle.std.proofs.Common.{◌≡◌, ◌==◌, ◌∙◌, ◌++◌, ◌∷◌, [], ap, sym, length, rules}
-use Rattle.std.specs.Prelude.{if◌then◌else◌, is_some, true, false}
-use Rattle.std.specs.Arc.{arc_value}
-use Rattle.board_machine.specs.Boards.{RefusedWith, Valued, way_to}
+use Rattle.std.proofs.Common.{◌∙◌, ◌++◌, ◌∷◌, [], ap, sym, rules}
+use Rattle.std.specs.Prelude.{is_some}
 use Rattle.board_machine.specs.Events
-use Rattle.board_machine.specs.Moves.{hand_file, shelve_need, shelved_state, spread_refusal}
-use Rattle.board_machine.specs.Moves.{with_value, woken_state}
+use Rattle.board_machine.specs.Moves.{hand_file, shelve_need, shelved_state}
 use Rattle.board_slots.specs.Views.{handed}
-use Rattle.board_core.proofs.Events.{ended_of, goals_kept, noted_of, open_within, unchanged_of}
+use Rattle.board_core.proofs.Events.{goals_kept, noted_of}
 use Rattle.board_core.proofs.table.Table.shelve.Goals as goal
 
 pub invariant_of-self-2 : goal.invariant_of-self-2

@@ -1,8 +1,6 @@
-use Rattle.std.proofs.Common.{◌≡◌, ◌==◌, ◌∙◌, ◌++◌, ◌∷◌, [], ap, refl, sym, subst, length, rules}
+use Rattle.std.proofs.Common.{◌==◌, ◌∙◌, ◌++◌, ◌∷◌, [], ap, sym, subst, rules}
 use Rattle.std.specs.Prelude.{if◌then◌else◌, is_some, None}
-use Rattle.std.specs.Arc.{arc_value}
-use Rattle.board_laws.specs.Works
-use Rattle.board_machine.specs.Boards.{File, OnFile, Queued}
+use Rattle.board_machine.specs.Boards.{File, OnFile}
 use Rattle.board_machine.specs.Events
 use Rattle.board_machine.specs.Moves.{is_file, with_need}
 use Rattle.board_slots.specs.Claims.{IsReturnedAt}
@@ -12,14 +10,14 @@ use Rattle.board_core.proofs.table.Table.wait.Goals as goal
 pub invariant_of-self-2 : goal.invariant_of-self-2
 invariant_of-self-2 g c =
     goals_kept (λ at slot.
-      if at == c.args.held.place then record { job = slot.job; state = OnFile (g.W.Work.answers_of c.args.part) c.args.need } else slot)
+    if at == c.args.held.place then record { job = slot.job; state = OnFile (g.W.Work.answers_of c.args.part) c.args.need } else slot)
     c.self.inside.goals c.self.inside.slots.items c.wait_for_file.new.slots.items
     c.wait_for_file.ensures c.self.invariant
 
 pub returns : goal.returns
 returns g c =
     parked_of (λ at slot.
-      if at == c.args.held.place then record { job = slot.job; state = OnFile (g.W.Work.answers_of c.args.part) c.args.need } else slot) (with_need (is_file c.args.path) (File c.args.path None))
+    if at == c.args.held.place then record { job = slot.job; state = OnFile (g.W.Work.answers_of c.args.part) c.args.need } else slot) (with_need (is_file c.args.path) (File c.args.path None))
     c.self.inside.goals c.self.inside.slots.items c.wait_for_file.new.slots.items
     c.self.inside.needs.items c.want_file.new.needs.items
     (is_some c.self.inside.stop) c.self.inside.journal.events
