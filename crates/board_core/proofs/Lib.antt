@@ -1,0 +1,4 @@
+pub mod Events
+pub mod FileParks
+pub mod Keeping
+pub mod TableClaims

@@ -1,0 +1,5 @@
+pub mod Accounts
+pub mod Calls
+pub mod Claims
+pub mod Histories
+pub mod Journals

@@ -1,0 +1,313 @@
+//! How a board stands, and the events that change it, whatever its work is.
+ghost use Rattle.std.specs.Prelude.{◌≡◌, ◌≤◌, ◌<◌, ◌+◌, [], true, false, Some, IfOk, length};
+ghost use Rattle.std.specs.Prelude.{is_some, slice_get, vec_len, option_map, map};
+ghost use Rattle.board_core.specs.Accounts.{HasRoom, IsEvent, IsHalted, ended, noted, waiting_for_file};
+ghost use Rattle.board_core.specs.Claims.{ClaimGives, IsQueuedAt, IsTakenAt, claim_count};
+ghost use Rattle.board_machine.specs.Boards.{Queued};
+ghost use Rattle.board_machine.specs.Events.{Finish, Park, Shelve};
+ghost use Rattle.board_laws.specs.Works;
+ghost use Rattle.std.specs.Arc.{arc_value};
+ghost use Rattle.std.specs.List.{position_or_len};
+ghost use Rattle.std.specs.Prelude.{◌∷◌};
+ghost use Rattle.board_machine.specs.Moves.{finish_refused, finish_value, is_over};
+ghost use Rattle.board_machine.specs.Moves.{is_file, set_state, shelve, with_slots};
+ghost use Rattle.board_slots.specs.Claims.{IsReturnedAt, is_held};
+ghost use Rattle.board_slots.specs.Needs.{IsFirstOpen, found_in, is_open_at};
+ghost use Rattle.board_slots.specs.Views.{outcome_of};
+ghost use Rattle.board_core.specs.Calls.{job_at, outcome_in};
+ghost use Rattle.board_core.specs.Journals.{event_of};
+ghost use Rattle.std.specs.Option.{option_copied};
+
+use crate::journal::Journal;
+use board_slots::handing::{file_gifts, hand_out, refusal_gifts, value_gifts};
+use board_slots::jobs::{are_over, first_queued};
+use board_slots::needs::{answer, file_number, found_at, is_open_at, want_file, wanted};
+use board_slots::parking::{queue_at, wait_for_file};
+use board_slots::{Slot, Wanted};
+use board_work::{Claim, Event, Given, Held, Stop, Work};
+use bz_base::{Mem, Refusal, TreePath};
+use bz_tree::Found;
+use std::alloc::Global;
+use std::marker::Model;
+use std::sync::Arc;
+
+/// The jobs of a board, their needs, what happened, and the steps spent.
+#[derive(Drop)]
+pub struct Table<W: Work> {
+    goals: usize,
+    slots: Vec<Slot<W>>,
+    needs: Vec<Wanted>,
+    stop: Option<Stop>,
+    journal: Journal,
+    spent: u64,
+}
+
+impl<W: Work> Model for Table<W> {
+    ghost use Rattle.std.specs.Prelude.{is_some, length, ◌≤◌};
+    ghost use Rattle.board_core.specs.Accounts.{Table as Seen};
+
+    ghost Value = { Seen W.Job W.Value };
+
+    ghost view = { λ t. record { account = record { board = record { goals = t.goals; slots = t.slots.items; needs = t.needs.items; halted = is_some t.stop }; journal = t.journal.events; spent = t.spent }; room = t.journal.room } };
+
+    ghost invariant = { λ t. t.goals ≤ length t.slots.items };
+}
+
+impl<W: Work> Table<W> {
+    /// A table on which each of these jobs is a goal.
+    pub fn open(alloc: Global, slots: Vec<Slot<W>>) -> Mem<Table<W>>
+        ensures opened { IfOk result (λ table. table.account ≡ record { board = record { goals = length slots.items; slots = slots.items; needs = []; halted = false }; journal = []; spent = 0 }) }
+        ensures room { IfOk result (λ table. length slots.items + 1 ≤ table.room) }
+    {
+        let mut journal = Journal::new(alloc);
+        journal.make_room(slots.len() + 1)?;
+        Ok(Table {
+            goals: slots.len(),
+            slots,
+            needs: Vec::new(alloc),
+            stop: None,
+            journal,
+            spent: 0,
+        })
+    }
+
+    pub fn is_over(&self) -> bool
+        ensures { result ≡ is_over self.now.account.board }
+    {
+        self.stop.is_some() || are_over(&self.slots[..self.goals])
+    }
+
+    /// Whether the job at the place is the one held, claimed by its worker after so many answers.
+    pub fn holds(&self, work: &W, held: &Held<W>) -> bool
+        ensures { result ≡ is_held (W.meaning work.now).text held.now.job held.now.worker held.now.answers (slice_get self.now.account.board.slots held.now.place) }
+    {
+        match self.slots.get(held.place as usize) {
+            Some(slot) => {
+                slot.is_claimed_by(held.worker, held.answers)
+                    && work.text(&held.job) == work.text(slot.job())
+            }
+            None => false,
+        }
+    }
+
+    /// Takes no memory.
+    pub fn claim(&mut self, worker: u32) -> Claim<W>
+        requires { self.old.account.board.halted ≡ false → HasRoom self.old }
+        ensures gives { ClaimGives W.job_of W.answers_of worker self.old.account self.new.account result }
+        ensures room { self.old.room ≤ self.new.room + claim_count result }
+    {
+        if self.is_over() {
+            return Claim::Finished;
+        }
+        let place = first_queued(&self.slots);
+        if place == self.slots.len() {
+            return Claim::Nothing;
+        }
+        self.journal.write(Event::Claim {
+            worker,
+            job: place as u64,
+        });
+        take_at(&mut self.slots, worker, place)
+    }
+
+    pub fn finish_value(
+        &mut self,
+        alloc: Global,
+        worker: u32,
+        place: usize,
+        value: W::Value,
+        steps: u64,
+    ) -> Mem<()>
+        ensures { IsEvent self.old self.new (ended (Finish worker place false) steps (finish_value place value self.old.account.board) self.old.account) result }
+    {
+        let value = Arc::new(alloc, value)?;
+        let gifts = value_gifts(alloc, &self.slots, place, &value)?;
+        self.journal.make_room(self.slots.len() + 2)?;
+        hand_out(&mut self.slots, gifts);
+        self.journal.write(Event::Finish {
+            worker,
+            job: place as u64,
+            refused: false,
+        });
+        self.spent = self.spent.saturating_add(steps);
+        Ok(())
+    }
+
+    pub fn finish_refused(
+        &mut self,
+        alloc: Global,
+        worker: u32,
+        place: usize,
+        refusal: Refusal,
+        steps: u64,
+    ) -> Mem<()>
+        ensures { IsEvent self.old self.new (ended (Finish worker place true) steps (finish_refused place refusal self.old.account.board) self.old.account) result }
+    {
+        let refusal = Arc::new(alloc, refusal)?;
+        let gifts = refusal_gifts(alloc, &self.slots, place, &refusal)?;
+        self.journal.make_room(self.slots.len() + 2)?;
+        hand_out(&mut self.slots, gifts);
+        self.journal.write(Event::Finish {
+            worker,
+            job: place as u64,
+            refused: true,
+        });
+        self.spent = self.spent.saturating_add(steps);
+        Ok(())
+    }
+
+    /// The claimed job goes on at once with what was found at its file.
+    pub fn go_on(
+        &mut self,
+        held: Held<W>,
+        part: W::Part,
+        need: usize,
+        found: Arc<Found>,
+        steps: u64,
+    ) -> Mem<()>
+        requires within { held.place < length self.old.account.board.slots }
+        requires returned { IsReturnedAt W.job_of W.answers_of held part self.old.account.board.slots }
+        ensures { IsEvent self.old self.new (ended (Park held.worker held.place need) steps (with_slots (set_state held.place (Queued (Works.Found (arc_value found) ∷ W.answers_of part)) self.old.account.board.slots) self.old.account.board) self.old.account) result }
+    {
+        let worker = held.worker;
+        let job = held.place;
+        self.journal.make_room(self.slots.len() + 2)?;
+        queue_at(&mut self.slots, held, part, Given::File(found));
+        self.journal.write(Event::Park {
+            worker,
+            job,
+            need: need as u64,
+        });
+        self.spent = self.spent.saturating_add(steps);
+        Ok(())
+    }
+
+    /// The claimed job waits for a file.
+    pub fn wait(
+        &mut self,
+        held: Held<W>,
+        part: W::Part,
+        need: usize,
+        path: TreePath,
+        steps: u64,
+    ) -> Mem<()>
+        requires number { need ≡ position_or_len (is_file path) self.old.account.board.needs }
+        requires within { held.place < length self.old.account.board.slots }
+        requires returned { IsReturnedAt W.job_of W.answers_of held part self.old.account.board.slots }
+        ensures { IsEvent self.old self.new (ended (Park held.worker held.place need) steps (waiting_for_file held.place (W.answers_of part) need path self.old.account.board) self.old.account) result }
+    {
+        let worker = held.worker;
+        let job = held.place;
+        self.journal.make_room(self.slots.len() + 2)?;
+        want_file(&mut self.needs, need, path)?;
+        wait_for_file(&mut self.slots, held, part, need);
+        self.journal.write(Event::Park {
+            worker,
+            job,
+            need: need as u64,
+        });
+        self.spent = self.spent.saturating_add(steps);
+        Ok(())
+    }
+
+    /// The number of a file's need, or that which it would have.
+    pub fn file_number(&self, path: &TreePath) -> usize
+        ensures { result ≡ position_or_len (is_file path.now) self.now.account.board.needs }
+    {
+        file_number(&self.needs, path)
+    }
+
+    /// What was found for a need.
+    pub fn found_at(&self, need: usize) -> Mem<Option<Arc<Found>>>
+        ensures { IfOk result (λ found. option_map arc_value found ≡ found_in (slice_get self.now.account.board.needs need)) }
+    {
+        found_at(&self.needs, need)
+    }
+
+    /// Whether the need of that number is one of this file, without an answer.
+    pub fn is_open_at(&self, need: usize, path: &TreePath) -> bool
+        ensures { result ≡ is_open_at path.now (slice_get self.now.account.board.needs need) }
+    {
+        is_open_at(&self.needs, need, path)
+    }
+
+    pub fn shelve(&mut self, alloc: Global, need: usize, found: Found) -> Mem<()>
+        requires { need < length self.old.account.board.needs }
+        ensures { IsEvent self.old self.new (noted (Shelve need) (shelve need found self.old.account.board) self.old.account) result }
+    {
+        let found = Arc::new(alloc, found)?;
+        let gifts = file_gifts(alloc, &self.slots, need, &found)?;
+        self.journal.make_room(self.slots.len() + 2)?;
+        hand_out(&mut self.slots, gifts);
+        answer(&mut self.needs, need, found);
+        self.journal.write(Event::Shelve { need: need as u64 });
+        Ok(())
+    }
+
+    /// Keeps the reason why nothing goes on any more. Takes no memory.
+    pub fn halt(&mut self, why: Stop)
+        requires { self.old.account.board.halted ≡ false → HasRoom self.old }
+        ensures halted { IsHalted self.old.account self.new.account }
+        ensures room { self.old.room ≤ self.new.room + 1 }
+        ensures same { self.old.account.board.halted ≡ true → self.old.room ≤ self.new.room }
+    {
+        if self.stop.is_some() {
+            return;
+        }
+        self.stop = Some(why);
+        self.journal.write(Event::Halt);
+    }
+
+    pub fn wanted(&self) -> Option<(u64, &TreePath)>
+        ensures { IsFirstOpen self.now.account.board.needs result }
+    {
+        wanted(&self.needs)
+    }
+
+    pub fn job(&self, place: usize) -> Option<&W::Job>
+        ensures { option_copied result ≡ job_at (slice_get self.now.account.board.slots place) }
+    {
+        match self.slots.get(place) {
+            Some(slot) => Some(slot.job()),
+            None => None,
+        }
+    }
+
+    pub fn outcome(&self, place: usize) -> Option<Result<&Arc<W::Value>, &Refusal>>
+        ensures { option_map outcome_of result ≡ outcome_in (slice_get self.now.account.board.slots place) }
+    {
+        match self.slots.get(place) {
+            Some(slot) => slot.outcome(),
+            None => None,
+        }
+    }
+
+    pub fn stopped(&self) -> Option<&Stop>
+        ensures { is_some result ≡ self.now.account.board.halted }
+    {
+        self.stop.as_ref()
+    }
+
+    pub fn spent(&self) -> u64
+        ensures { result ≡ self.now.account.spent }
+    {
+        self.spent
+    }
+
+    pub fn journal(&self) -> &[Event]
+        ensures { map event_of result.now ≡ self.now.account.journal }
+    {
+        self.journal.events()
+    }
+}
+
+/// Hands out the queued job at that place.
+fn take_at<W: Work>(slots: &mut Vec<Slot<W>>, worker: u32, place: usize) -> Claim<W>
+    requires within { place < vec_len slots.old }
+    requires queued { IsQueuedAt place slots.old.items }
+    ensures taken { IsTakenAt W.job_of W.answers_of worker place slots.old.items slots.new.items result }
+    ensures length { length slots.new.items ≡ length slots.old.items }
+{
+    let slot = &mut slots[place];
+    slot.claim(worker, place)
+}

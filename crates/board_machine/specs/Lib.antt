@@ -1,0 +1,4 @@
+pub mod Boards
+pub mod Moves
+pub mod Kept
+pub mod Events

@@ -1,0 +1,3 @@
+pub mod GiftLists
+pub mod Opens
+pub mod Ways

@@ -1,0 +1,12 @@
+use Rattle.std.proofs.Common.{◌≡◌, ◌≤◌, length}
+use Rattle.board_slots.specs.Views.{handed}
+use Rattle.board_slots.proofs.handing.hand_out.Given as goal
+
+-- what is left to hand out makes the whole of what stands now
+abbrev pub invariant-gifts : goal.invariant-gifts
+invariant-gifts g l =
+    (length l.gifts.items ≤ length l.slots.items)
+    × (handed l.gifts.items l.slots.items ≡ handed l.fn.gifts.items l.fn.slots.items)
+
+abbrev pub decreases-gifts : goal.decreases-gifts
+decreases-gifts g l = length l.gifts.items
