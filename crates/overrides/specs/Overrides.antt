@@ -1,10 +1,9 @@
 -- What the root's overrides make of a dependency: Bazel, "MODULE.bazel files" and "Bazel modules",
 -- section "Overrides". Overrides count in the root alone.
 use Rattle.std.specs.Prelude.{◌≢◌, ℕ, ◌==◌, Bool, ◌&&◌, not, if◌then◌else◌, List, [], ◌∷◌, length}
-use Rattle.std.specs.Prelude.{map, Option, None, Some, Result, Ok, Err, bytes_eq, All, AllPairs}
+use Rattle.std.specs.Prelude.{map, Option, None, Some, Result, Ok, Err, bytes_eq, AllPairs}
 use Rattle.std.specs.Prelude.{String, string_bytes}
 use Rattle.std.specs.declared.alloc.Global.{Global}
-use Rattle.bz_base.specs.ModuleDeclarations.{IsOverrideOf}
 use Rattle.bz_base.specs.Refusals.{refusal_of}
 use Rattle.bz_base.specs.declared.declarations.Dep.{Dep}
 use Rattle.bz_base.specs.declared.declarations.ModuleDecl.{ModuleDecl}
@@ -17,15 +16,9 @@ use Rattle.bz_base.specs.declared.refusals.Refusal.{Refusal}
 use Rattle.overrides.specs.declared.effective.Effective.{Effective}
 use Rattle.overrides.specs.declared.effective.Effective.TheVariants.{Root, Module}
 
--- no module has two overrides
+-- no module has two overrides, as a root's file that was read keeps it
 abbrev pub NamesDiffer : List Override → Type 0
 NamesDiffer overrides = AllPairs (λ one other. one.name ≢ other.name) overrides
-
--- the root's overrides: each is one of another module, with versions, a path and a registry that
--- its file may name, and no module has two
-pub record AreOverridesOf (root : ModuleDecl) : Type 0 where
-  pub stand : All (IsOverrideOf root.name) root.overrides
-  pub once : NamesDiffer root.overrides
 
 -- the root's name, and by what each module is overridden, in the order of the root's file
 pub record RootOverrides : Type 0 where

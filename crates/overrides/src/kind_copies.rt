@@ -25,12 +25,7 @@ pub(crate) fn copy_of_kind(alloc: Global, kind: &OverrideKind) -> Mem<OverrideKi
     }
 }
 
-fn copy_of_single(
-    alloc: Global,
-    version: &Txt,
-    registry: &Txt,
-    patched: bool,
-) -> Mem<OverrideKind>
+fn copy_of_single(alloc: Global, version: &Txt, registry: &Txt, patched: bool) -> Mem<OverrideKind>
     ensures { IfOk result (λ copy. copy ≡ Single version.now registry.now patched) }
 {
     Ok(OverrideKind::Single {

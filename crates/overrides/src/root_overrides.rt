@@ -3,7 +3,7 @@ ghost use Rattle.std.specs.Prelude.{◌≡◌, ◌++◌, [], ◌∷◌, None, If
 ghost use Rattle.std.specs.Option.{option_copied};
 ghost use Rattle.bz_text.specs.Answers.{Gives};
 ghost use Rattle.overrides.specs.Overrides as spec;
-ghost use Rattle.overrides.specs.Overrides.{AreOverridesOf, NamesDiffer, effective_of};
+ghost use Rattle.overrides.specs.Overrides.{NamesDiffer, effective_of};
 ghost use Rattle.overrides.specs.Overrides.{kind_of, kinds_of};
 ghost use Rattle.overrides.specs.Overrides.{named_kind, overrides_of};
 
@@ -32,7 +32,7 @@ impl Model for Overrides {
 impl Overrides {
     /// The overrides of a root's file.
     pub fn of(alloc: Global, root: &ModuleDecl) -> Mem<Overrides>
-        requires { AreOverridesOf root.now }
+        requires { NamesDiffer root.now.overrides }
         ensures { IfOk result (λ overrides. overrides ≡ overrides_of root.now) }
     {
         Ok(Overrides {
