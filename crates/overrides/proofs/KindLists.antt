@@ -52,7 +52,8 @@ place [] rest one [] other e = absurd (cc e)
 place [] rest one (first ∷ overrides) other e = (omega arith, cc e)
 place (pair ∷ pairs) rest one [] other e = absurd (cc e)
 place (pair ∷ pairs) rest one (first ∷ overrides) other e =
-    let further = place pairs rest one overrides other (cc e) in (omega (arith, further.0), further.1)
+    let further = place pairs rest one overrides other (cc e) in
+    (omega (arith, further.0), further.1)
 
 unequal : (name other : List ℕ) (t : Bool)
     → bytes_eq name other ≡ t

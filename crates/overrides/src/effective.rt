@@ -1,5 +1,5 @@
 //! The module that a dependency means.
-ghost use Rattle.std.specs.Prelude.{◌≡◌, IfOk, option_map};
+ghost use Rattle.std.specs.Prelude.{◌≡◌, IfOk};
 ghost use Rattle.std.specs.Option.{option_copied};
 ghost use Rattle.bz_text.specs.Answers.{Gives};
 ghost use Rattle.overrides.specs.Overrides as spec;
@@ -17,7 +17,7 @@ pub enum Effective {
 
 /// The module at a version, or that the dependency asks for none.
 pub(crate) fn module(alloc: Global, name: &str, version: Option<&str>) -> May<Effective, Refusal>
-    ensures { Gives (module_at name.now (option_map (λ text. text.now) version.entry)) result }
+    ensures { Gives (module_at name.now (option_copied version.entry)) result }
 {
     match version {
         Some(version) => Ok(Effective::Module(Key {
@@ -38,7 +38,7 @@ fn no_version(alloc: Global, name: &str) -> Mem<Refusal>
 
 /// The version for which a dependency asks under an override.
 pub(crate) fn version_under<'a>(kind: Option<&'a OverrideKind>, own: &'a str) -> Option<&'a str>
-    ensures { option_map (λ text. text.now) result ≡ spec.version_under (option_copied kind.entry) own.now }
+    ensures { option_copied result ≡ spec.version_under (option_copied kind.entry) own.now }
 {
     match kind {
         Some(OverrideKind::Single { version, .. }) => first_given(version.as_str(), own),
@@ -48,7 +48,7 @@ pub(crate) fn version_under<'a>(kind: Option<&'a OverrideKind>, own: &'a str) ->
 }
 
 fn first_given<'a>(version: &'a str, other: &'a str) -> Option<&'a str>
-    ensures { option_map (λ text. text.now) result ≡ spec.first_given version.now other.now }
+    ensures { option_copied result ≡ spec.first_given version.now other.now }
 {
     if version.is_empty() {
         given(other)
@@ -58,7 +58,7 @@ fn first_given<'a>(version: &'a str, other: &'a str) -> Option<&'a str>
 }
 
 fn given(version: &str) -> Option<&str>
-    ensures { option_map (λ text. text.now) result ≡ spec.given version.now }
+    ensures { option_copied result ≡ spec.given version.now }
 {
     if version.is_empty() {
         None

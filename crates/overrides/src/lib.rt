@@ -6,8 +6,8 @@
 //! dependency on the root's own name means the root, a module under a local path, an archive or a
 //! Git repository has the empty version, a pinned version goes before the dependency's own.
 //! The code keeps the overrides in a map by name.
-//! Limits: no module has two overrides (`NamesDiffer`), as in each root's file that was read. That a
-//! listed version stands for others is a matter of selection. NoVersion has no place: whoever
+//! Limits: no module has two overrides (`NamesDiffer`), as in each root's file that was read. That
+//! a listed version stands for others is a matter of selection. NoVersion has no place: whoever
 //! follows the dependency knows its file and line.
 //! Source: Bazel, "MODULE.bazel files" and "Bazel modules", section "Overrides". To change what an
 //! override means open `src/effective.rt`.

@@ -1,5 +1,6 @@
 -- Steps over a tree, one behind another.
-use Rattle.std.proofs.Common.{◌≡◌, ℕ, ◌≤◌, List, [], ◌∷◌, ◌++◌, Option, None, Some, IfSome, Result, Ok}
+use Rattle.std.proofs.Common.{◌≡◌, ℕ, ◌≤◌, List, [], ◌∷◌, ◌++◌, Option, None, Some, IfSome, Result}
+use Rattle.std.proofs.Common.{Ok}
 use Rattle.std.proofs.Common.{Err, inl, inr, refl, ap, sym, ◌∙◌, subst, arith}
 use Rattle.bz_base.specs.declared.refusals.Refusal.{Refusal}
 use Rattle.bz_text.specs.Answers.{Gives}
@@ -99,7 +100,8 @@ pub AsksOver-then : {A B : Type 0} (part : Files → Reading A) (next : Files �
     (files kept files_now : Option Files) (before middle now : ℕ) (failed_then failed : List ℕ)
     (asked between left : Asked) (value : A) (result : Result B Failure)
     → AsksOver part (run_of files kept before middle failed_then) asked between (Ok value)
-    → AsksOver (λ look. next look value) (run_of kept files_now middle now failed) between left result
+    → AsksOver (λ look. next look value) (run_of kept files_now middle now failed) between left
+    result
     → AsksOver (λ look. and_then (part look) (next look)) (run_of files files_now before now failed)
     asked left result
 AsksOver-then {A} {B} part next files kept files_now before middle now failed_then failed asked
@@ -199,7 +201,8 @@ AsksOver-stopped wanted files count failed asked left same = (
 pub AsksOver-given : {A : Type 0} (wanted : Result A Refusal) (files : Option Files) (count : ℕ)
     (failed : List ℕ) (asked : Asked) (value : A)
     → wanted ≡ Ok value
-    → AsksOver (λ look. settled wanted) (run_of files files count count failed) asked asked (Ok value)
+    → AsksOver (λ look. settled wanted) (run_of files files count count failed) asked asked
+    (Ok value)
 AsksOver-given wanted files count failed asked value given = (
   (IfSome-from_told files (λ look. wanted ≡ Ok value) (λ look e. given), refl, omega arith),
   IfSome-from_told files (λ look. asked ≡ asked) (λ look e. refl),
@@ -225,7 +228,8 @@ pub AsksOver-settled : {A : Type 0} (other file : FileOf) (wanted : Found → Re
     → other ≡ file
     → AsksOver (λ look. ask look other) (run_of files files_now before now failed) asked left
     (Ok found)
-    → AsksOver (λ look. settled (wanted found)) (run_of files_now files_now now now failed) left left
+    → AsksOver (λ look. settled (wanted found)) (run_of files_now files_now now now failed) left
+    left
     result
     → AsksOver (λ look. and_then (ask look file) (λ there. settled (wanted there)))
     (run_of files files_now before now failed) asked left result

@@ -30,7 +30,8 @@ file_found registry key Absent = Ok None
 
 unfoldable pub file_in : Files → List ℕ → Key → Reading (Option RegistryFile)
 file_in look registry key =
-    and_then (ask look (module_file registry key)) (λ found. settled (file_found registry key found))
+    and_then (ask look (module_file registry key))
+    (λ found. settled (file_found registry key found))
 
 -- a file that is found, or else what follows
 abbrev pub first_of : Reading RegistryFile → Option RegistryFile → Reading RegistryFile
@@ -46,3 +47,7 @@ first_file look key (registry ∷ registries) = and_then (file_in look registry 
 -- the registry that an override names, or else all in order
 abbrev pub registries_for : List ℕ → List (List ℕ) → List (List ℕ)
 registries_for only registries = if length only == 0 then registries else only ∷ []
+
+-- the file of a module, by the registry that its override names, or by all
+abbrev pub file_of : Files → Key → List ℕ → List (List ℕ) → Reading RegistryFile
+file_of look key only registries = first_file look key (registries_for only registries)

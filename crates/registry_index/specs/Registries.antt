@@ -75,7 +75,8 @@ path_of file = joined [] (path_text file)
 
 -- the directory of a module version below its registry
 unfoldable pub below_modules : Key → List ℕ → List ℕ
-below_modules key name = codes "modules/" ++ key.name ++ codes "/" ++ key.version ++ codes "/" ++ name
+below_modules key name =
+    codes "modules/" ++ key.name ++ codes "/" ++ key.version ++ codes "/" ++ name
 
 -- what the module's own file, its source and the registry itself say stands in these files
 abbrev pub module_file : List ℕ → Key → FileOf

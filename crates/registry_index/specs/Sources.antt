@@ -76,13 +76,25 @@ abbrev pub base_or_read : Files → List ℕ → Key → Option (List ℕ) → R
 base_or_read look registry key (Some directory) = settled (Ok directory)
 base_or_read look registry key None = base_read look registry key
 
--- a local source, from the base on
+-- the base directory of a registry, which is read unless it was kept
+abbrev pub kept_or_read : Files → List ℕ → Key → List RegistryBase → Reading (List ℕ)
+kept_or_read look registry key bases =
+    base_or_read look registry key (kept_base registry bases)
+
+-- a local source
 abbrev pub local_directory : Key → Result (List ℕ) Refusal → Result Source Refusal
 local_directory key (Ok path) = Ok (source.Dir path)
 local_directory key (Err refusal) = Err refusal
 
-abbrev pub source_from : Key → List ℕ → Result SourceFile source_file.BadSource → Result Source Refusal
-source_from key base (Ok (Local path)) = local_directory key (directory_at key (joined base path))
+-- a local source, from the base on
+abbrev pub local_at : Key → List ℕ → List ℕ → Result Source Refusal
+local_at key base path = local_directory key (directory_at key (joined base path))
+
+abbrev pub source_from : Key
+    → List ℕ
+    → Result SourceFile source_file.BadSource
+    → Result Source Refusal
+source_from key base (Ok (Local path)) = local_at key base path
 source_from key base (Ok Remote) = Ok source.Remote
 source_from key base (Err bad) = Err (bad_source_refusal key)
 
@@ -102,5 +114,5 @@ source_read look registry key base =
 -- the source of a module: the registry's base directory first, which is read unless it is kept
 unfoldable pub source_of : Files → List ℕ → Key → List RegistryBase → Reading Source
 source_of look registry key bases =
-    and_then (base_or_read look registry key (kept_base registry bases))
+    and_then (kept_or_read look registry key bases)
     (source_read look registry key)

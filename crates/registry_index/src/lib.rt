@@ -17,6 +17,7 @@
 
 mod asked_files;
 mod finding;
+pub mod laws;
 mod reading;
 pub mod registries;
 mod registry_text;

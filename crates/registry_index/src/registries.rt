@@ -3,8 +3,7 @@ ghost use Rattle.std.specs.Prelude.{◌≡◌, [], ◌∷◌};
 ghost use Rattle.bz_text.specs.Answers.{Gives};
 ghost use Rattle.bz_tree.specs.Failures.{tree_run};
 ghost use Rattle.registry_index.specs.AskedFiles.{AsksOver};
-ghost use Rattle.registry_index.specs.Finding as finding;
-ghost use Rattle.registry_index.specs.Finding.{registries_for};
+ghost use Rattle.registry_index.specs.Finding.{file_of};
 ghost use Rattle.registry_index.specs.RegistryLists.{registries_of, registries_named};
 ghost use Rattle.registry_index.specs.Sources.{source_of};
 
@@ -70,7 +69,7 @@ impl Registries {
         only: &str,
         tree: &mut T,
     ) -> Result<RegistryFile, Failure>
-        ensures found { AsksOver (λ look. finding.first_file look key.now (registries_for only.now self.old.texts))
+        ensures found { AsksOver (λ look. file_of look key.now only.now self.old.texts)
             (tree_run T.files T.faults T.failed tree.old tree.new)
             self.old.asked
             self.new.asked

@@ -6,8 +6,8 @@ ghost use Rattle.bz_tree.specs.Failures.{tree_run};
 ghost use Rattle.registry_index.specs.AskedFiles.{AsksOver};
 ghost use Rattle.registry_index.specs.Sources as spec;
 ghost use Rattle.registry_index.specs.Sources.{bad_source_refusal, base_from, base_read, base_said};
-ghost use Rattle.registry_index.specs.Sources.{base_or_read, directory_at, kept_base};
-ghost use Rattle.registry_index.specs.Sources.{local_directory, source_of, source_read};
+ghost use Rattle.registry_index.specs.Sources.{directory_at, kept_or_read, local_at, source_of};
+ghost use Rattle.registry_index.specs.Sources.{source_read};
 ghost use Rattle.source_files.specs.SourceFiles.{base_in, source_in};
 
 use crate::asked_files::AskedFiles;
@@ -49,7 +49,7 @@ fn base_directory<T: Tree>(
     registry: &str,
     key: &Key,
 ) -> Result<TreePath, Failure>
-    ensures { AsksOver (λ look. base_or_read look registry.now key.now (kept_base registry.now asked.old.bases))
+    ensures { AsksOver (λ look. kept_or_read look registry.now key.now asked.old.bases)
         (tree_run T.files T.faults T.failed tree.old tree.new)
         asked.old
         asked.new
@@ -199,7 +199,7 @@ fn source_by_file(alloc: Global, key: &Key, base: &TreePath, bytes: &[u8]) -> Ma
 }
 
 fn local(alloc: Global, key: &Key, base: &TreePath, path: &str) -> May<Source, Refusal>
-    ensures { Gives (local_directory key.now (directory_at key.now (joined base.now path.now))) result }
+    ensures { Gives (local_at key.now base.now path.now) result }
 {
     match directory_from(alloc, key, base, path) {
         Ok(path) => Ok(Source::Dir(path)),

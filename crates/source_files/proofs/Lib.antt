@@ -1,1 +1,1 @@
-mod JsonValues
+mod Json

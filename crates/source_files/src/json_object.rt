@@ -12,7 +12,7 @@ use serde_json::Value;
 use std::alloc::Global;
 
 /// The value of a file's bytes.
-#[tactic(auto, using(crate::proofs::JsonValues::value_of_text, crate::proofs::JsonValues::none_of_other))]
+#[tactic(auto, using(crate::proofs::Json::value_read, crate::proofs::Json::none_read))]
 pub(crate) fn read_json(alloc: Global, bytes: &[u8]) -> May<Value, BadSource>
     ensures value { IfOk result (λ json. json_of bytes.now ≡ Some (view json)) }
     ensures none { IsErrOf result (Because bad_source) → json_of bytes.now ≡ None }

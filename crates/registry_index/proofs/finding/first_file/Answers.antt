@@ -100,7 +100,8 @@ asking-preserved g c =
             λ end last further. (c.asking.invariant.0 look e).1 end last
                 (subst (λ steps. Leaves look steps between last end)
                 (sym (ap (λ reading. reading.steps) whole))
-                (Leaves-behind look (file_in look registry key).steps (first_file look key rest).steps
+                (Leaves-behind look (file_in look registry key).steps
+                (first_file look key rest).steps
                 between last end
                 (subst (λ state. Leaves look (first_file look key rest).steps state last end) began
                 further))),
@@ -117,10 +118,12 @@ returns g c =
     let middle = g.T.Tree.faults c.asking.tree in
     let failed = g.T.Tree.failed c.asking.tree in
     let key = c.args.key.now in
-    let none : drop c.asking.registry-index c.args.registries.now ≡ [] = grind (arith, common_steps) in
+    let none : drop c.asking.registry-index c.args.registries.now ≡ [] =
+    grind (arith, common_steps) in
     AsksOver-onward (λ look. first_file look key (drop c.asking.registry-index
-    c.args.registries.now)) (λ look. first_file look key c.args.registries.now) files kept kept before
-    middle middle failed c.args.asked.now c.asking.asked c.asking.asked (Err (Refused c.in_ok-no_module.field-0))
+    c.args.registries.now)) (λ look. first_file look key c.args.registries.now) files kept kept
+    before middle middle failed c.args.asked.now c.asking.asked c.asking.asked
+    (Err (Refused c.in_ok-no_module.field-0))
     c.asking.invariant.1 c.asking.invariant.2 c.asking.invariant.0
     (subst (λ list. AsksOver (λ look. first_file look key list)
     (run_of kept kept middle middle failed) c.asking.asked c.asking.asked

@@ -14,7 +14,8 @@ invariant-asking g l =
     → ((first_file look l.key (drop l.registry-index l.registries)).answer
     ≡ (first_file look l.key l.registries).answer)
     × ((end : Result RegistryFile Failure) (last : Asked)
-    → Leaves look (first_file look l.key (drop l.registry-index l.registries)).steps l.asked last end
+    → Leaves look (first_file look l.key (drop l.registry-index l.registries)).steps l.asked last
+    end
     → Leaves look (first_file look l.key l.registries).steps l.initial.asked last end))
     × (g.T.Tree.files l.tree ≡ g.T.Tree.files l.initial.tree)
     × (g.T.Tree.faults l.initial.tree ≤ g.T.Tree.faults l.tree)

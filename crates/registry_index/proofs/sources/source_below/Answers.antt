@@ -14,7 +14,8 @@ returns-in-Ok-source_found g c =
     (λ below. record { registry = c.args.registry.now; below = below })
     (c.as_str.ensures ∙ c.in_ok-below.ensures) in
     AsksOver-settled file (source_file c.args.registry.now c.args.key.now)
-    (source_found c.args.registry.now c.args.key.now c.args.base.now) (g.T.Tree.files c.args.tree.now)
+    (source_found c.args.registry.now c.args.key.now c.args.base.now)
+    (g.T.Tree.files c.args.tree.now)
     (g.T.Tree.files c.ask.new.tree) (g.T.Tree.faults c.args.tree.now)
     (g.T.Tree.faults c.ask.new.tree) (g.T.Tree.failed c.ask.new.tree) c.args.asked.now
     c.ask.new.self c.in-Ok.found (Ok c.in-Ok-source_found.source) same c.in-Ok.ensures
@@ -31,7 +32,8 @@ returns g c =
     (λ below. record { registry = c.args.registry.now; below = below })
     (c.as_str.ensures ∙ c.in_ok-below.ensures) in
     let further = subst (λ failure. AsksOver
-    (λ look. settled (source_found c.args.registry.now c.args.key.now c.args.base.now c.in-Ok.found))
+    (λ look. settled
+    (source_found c.args.registry.now c.args.key.now c.args.base.now c.in-Ok.found))
     (run_of (g.T.Tree.files c.ask.new.tree) (g.T.Tree.files c.ask.new.tree)
     (g.T.Tree.faults c.ask.new.tree) (g.T.Tree.faults c.ask.new.tree)
     (g.T.Tree.failed c.ask.new.tree)) c.ask.new.self c.ask.new.self (Err failure))
@@ -41,7 +43,8 @@ returns g c =
     (g.T.Tree.failed c.ask.new.tree) c.ask.new.self c.in-Err-source_found.miss
     c.in-Err-source_found.ensures) in
     AsksOver-settled file (source_file c.args.registry.now c.args.key.now)
-    (source_found c.args.registry.now c.args.key.now c.args.base.now) (g.T.Tree.files c.args.tree.now)
+    (source_found c.args.registry.now c.args.key.now c.args.base.now)
+    (g.T.Tree.files c.args.tree.now)
     (g.T.Tree.files c.ask.new.tree) (g.T.Tree.faults c.args.tree.now)
     (g.T.Tree.faults c.ask.new.tree) (g.T.Tree.failed c.ask.new.tree) c.args.asked.now
     c.ask.new.self c.in-Ok.found (Err c.failure_of.result) same c.in-Ok.ensures further

@@ -27,7 +27,8 @@ returns-else-is_new-clause-added c =
     c.self.invariant in
     let present = sym finds
     ∙ present_unless_added _ _ c.in_ok-is_new.ensures.added c.if-is_new.false in
-    let hashes : c.reserve.new.self.items ≡ with_hash c.args.url c.args.hash c.args.self.now.hashes =
+    let hashes : c.reserve.new.self.items
+    ≡ with_hash c.args.url c.args.hash c.args.self.now.hashes =
     c.reserve.ensures.items
     ∙ sym (with_hash-known c.args.url c.args.hash c.self.inside.hashes.items present)
     ∙ ap (with_hash c.args.url c.args.hash) own in

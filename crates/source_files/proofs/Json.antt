@@ -7,23 +7,23 @@ use Rattle.serde_json.specs.Data.{Data}
 use Rattle.serde_json.specs.Read as json
 use Rattle.source_files.specs.SourceFiles.{json_of}
 
-pub value_of_text : (bytes : List ℕ) (value : Data)
+pub value_read : (bytes : List ℕ) (value : Data)
     → IsUtf8 bytes
     → json.read bytes ≡ Some value
     → json_of bytes ≡ Some value
 unfolding json_of
-value_of_text bytes value utf8 read = ap (λ t. if t then json.read bytes else None)
+value_read bytes value utf8 read = ap (λ t. if t then json.read bytes else None)
     (is_utf8-from_IsUtf8 bytes utf8) ∙ read
 
-none-read : (bytes : List ℕ) (t : Bool)
+none_by : (bytes : List ℕ) (t : Bool)
     → is_utf8 bytes ≡ t
     → (IsUtf8 bytes → json.read bytes ≡ None)
     → (if t then json.read bytes else None) ≡ None
-none-read bytes true e unread = unread (IsUtf8-from_is_utf8 bytes e)
-none-read bytes false e unread = refl
+none_by bytes true e unread = unread (IsUtf8-from_is_utf8 bytes e)
+none_by bytes false e unread = refl
 
-pub none_of_other : (bytes : List ℕ)
+pub none_read : (bytes : List ℕ)
     → (IsUtf8 bytes → json.read bytes ≡ None)
     → json_of bytes ≡ None
 unfolding json_of
-none_of_other bytes unread = none-read bytes (is_utf8 bytes) refl unread
+none_read bytes unread = none_by bytes (is_utf8 bytes) refl unread
