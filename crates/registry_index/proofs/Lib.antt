@@ -1,0 +1,4 @@
+pub mod Readings
+mod KeptDirectories
+mod RegistryForms
+mod UrlSets
