@@ -8,7 +8,7 @@ use Rattle.bz_base.specs.Paths.{joined}
 use Rattle.bz_base.specs.declared.module_key.Key.{Key}
 use Rattle.bz_base.specs.declared.refusals.Refusal.{Refusal}
 use Rattle.bz_base.specs.declared.tree_path.BadPath.{BadPath}
-use Rattle.bz_tree.specs.Failures.{Files}
+use Rattle.bz_tree.specs.Places.{Files}
 use Rattle.bz_tree.specs.declared.tree.Found.{Found}
 use Rattle.bz_tree.specs.declared.tree.Found.TheVariants.{Bytes, Large, Listing, Absent}
 use Rattle.source_files.specs.SourceFiles.{base_in}

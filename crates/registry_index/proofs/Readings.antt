@@ -7,7 +7,8 @@ use Rattle.bz_text.specs.Answers.{Gives}
 use Rattle.bz_text.specs.declared.memory.Miss.{Miss}
 use Rattle.bz_text.specs.declared.memory.Miss.TheVariants as miss
 use Rattle.bz_tree.proofs.Readings.{IfSome-told, IfSome-from_told, run_of}
-use Rattle.bz_tree.specs.Failures.{Files, GivesOver, failure_of_miss}
+use Rattle.bz_tree.specs.Failures.{GivesOver, failure_of_miss}
+use Rattle.bz_tree.specs.Places.{Files}
 use Rattle.bz_tree.specs.declared.failures.Failure.{Failure}
 use Rattle.bz_tree.specs.declared.failures.Failure.TheVariants.{Refused, ReadFault, OutOfMemory}
 use Rattle.registry_index.specs.AskedFiles.{Asked, AsksOver, FailedIn, Leaves, Reading, Step}

@@ -6,7 +6,8 @@ use Rattle.std.specs.List.{list_any}
 use Rattle.bz_base.specs.Digests.{digest_hex_text}
 use Rattle.bz_base.specs.declared.refusals.Refusal.{Refusal}
 use Rattle.bz_base.specs.declared.tree_path.BadPath.{BadPath}
-use Rattle.bz_tree.specs.Failures.{Files, ReadsOver, TreeRun}
+use Rattle.bz_tree.specs.Failures.{ReadsOver, TreeRun}
+use Rattle.bz_tree.specs.Places.{Files}
 use Rattle.bz_tree.specs.declared.failures.Failure.{Failure}
 use Rattle.bz_tree.specs.declared.failures.Failure.TheVariants.{Refused, ReadFault, OutOfMemory}
 use Rattle.bz_tree.specs.declared.tree.Found.{Found}

@@ -6,7 +6,7 @@ use Rattle.bz_base.specs.Refusals.{refusal_of}
 use Rattle.bz_base.specs.declared.module_key.Key.{Key}
 use Rattle.bz_base.specs.declared.refusals.Code.TheVariants.{NoModule, TooLarge}
 use Rattle.bz_base.specs.declared.refusals.Refusal.{Refusal}
-use Rattle.bz_tree.specs.Failures.{Files}
+use Rattle.bz_tree.specs.Places.{Files}
 use Rattle.bz_tree.specs.declared.tree.Found.{Found}
 use Rattle.bz_tree.specs.declared.tree.Found.TheVariants.{Bytes, Large, Listing, Absent}
 use Rattle.registry_index.specs.AskedFiles.{Reading, and_then, ask, settled}

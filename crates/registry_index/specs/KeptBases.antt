@@ -1,7 +1,7 @@
 -- Base directories that were kept, beside a tree.
 use Rattle.std.specs.Prelude.{◌≡◌, ℕ, Ok, All, List}
 use Rattle.bz_base.specs.declared.module_key.Key.{Key}
-use Rattle.bz_tree.specs.Failures.{Files}
+use Rattle.bz_tree.specs.Places.{Files}
 use Rattle.registry_index.specs.AskedFiles.{Asked, Reading, after_steps}
 use Rattle.registry_index.specs.Sources.{base_read, source_of}
 use Rattle.registry_index.specs.declared.asked_files.RegistryBase.{RegistryBase}

@@ -2,7 +2,7 @@
 ghost use Rattle.std.specs.Prelude.{◌≡◌, ◌↔◌, ℕ, List, [], IsTrue};
 ghost use Rattle.bz_base.specs.ModuleDeclarations.{IsRegistry};
 ghost use Rattle.bz_base.specs.declared.module_key.Key.{Key};
-ghost use Rattle.bz_tree.specs.Failures.{Files};
+ghost use Rattle.bz_tree.specs.Places.{Files};
 ghost use Rattle.registry_index.specs.AskedFiles.{Asked};
 ghost use Rattle.registry_index.specs.KeptBases.{AreKept, bases_after, source_after};
 ghost use Rattle.registry_index.specs.Registries.{is_registry};

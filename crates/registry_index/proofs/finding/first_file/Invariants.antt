@@ -1,5 +1,5 @@
 use Rattle.std.proofs.Common.{◌≡◌, ◌≤◌, Some, Result, drop}
-use Rattle.bz_tree.specs.Failures.{Files}
+use Rattle.bz_tree.specs.Places.{Files}
 use Rattle.bz_tree.specs.declared.failures.Failure.{Failure}
 use Rattle.registry_index.specs.AskedFiles.{Asked, Leaves}
 use Rattle.registry_index.specs.Finding.{first_file}
