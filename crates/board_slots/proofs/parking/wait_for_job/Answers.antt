@@ -1,8 +1,7 @@
-use Rattle.std.proofs.Common.{◌≡◌, ◌∙◌, ◌∷◌, ap, sym, refl, length, rules, slice_get, slice_set, Some}
+use Rattle.std.proofs.Common.{◌≡◌, ◌∙◌, ap, sym, refl, length, rules, slice_get, slice_set, Some}
 use Rattle.std.proofs.lemmas.Option.{slice_get_read}
 use Rattle.board_machine.proofs.Slots.{put-set}
-use Rattle.board_machine.specs.Boards.{OnFile, OnJob, Queued}
-use Rattle.board_work.specs.Turns.{answer_of}
+use Rattle.board_machine.specs.Boards.{OnJob}
 use Rattle.board_slots.proofs.parking.wait_for_job.Goals as goal
 
 pub returns : goal.returns
