@@ -107,3 +107,47 @@ module _ {J V : Type 0} (rules : Rules J (List ℕ) Found V Refusal) where
       → result_of (state_in o) ≡ None
   state_open None e = refl
   state_open (Some slot) e = e
+
+module _ {J V : Type 0} (meaning : Meaning J V) (files : Option (List ℕ → Found)) (goals : List J)
+    (law : (file : List ℕ → Found) → Lawful (rules_of meaning file)) where
+  asked_linked : (board : Board J Found V Refusal) (job asked : J) (worker count place : ℕ)
+      (answers : List (Answer Found V))
+      → is_held meaning.text job worker count (slice_get board.slots place) ≡ true
+      → meaning.own job ≡ true → meaning.run job answers ≡ Asks asked
+      → IsLinkedFor meaning board.slots
+      → IsLinkedFor meaning (park_job (bare_rules meaning) place job answers asked board).slots
+  asked_linked board job asked worker count place answers held own run linked =
+      let r = held_stands meaning.text job worker count place board.slots held in
+      let bare = law (λ path. Found.TheVariants.Absent) in
+      asks_linked (bare_rules meaning) bare board place job asked answers r.0 linked r.1
+      (ap next_of r.2) (bare.owns job asked answers own run)
+
+  pub job_parked_kept : (old new : Table J V) (job asked : J) (worker count place steps : ℕ)
+      (answers : List (Answer Found V))
+      → is_held meaning.text job worker count (slice_get old.account.board.slots place) ≡ true
+      → meaning.own job ≡ true
+      → meaning.run job answers ≡ Asks asked
+      → length answers ≡ count
+      → steps ≡ min (meaning.ticks job answers) last_count
+      → ((file : List ℕ → Found) → files ≡ Some file → IsGiven (rules_of meaning file) job answers)
+      → new.account ≡ ended
+      (Events.Park worker place (position_or_len (is_job (place_of (bare_rules meaning) asked old.account.board.slots)) old.account.board.needs)) steps
+      (park_job (bare_rules meaning) place job answers asked old.account.board) old.account
+      → length (park_job (bare_rules meaning) place job answers asked old.account.board).slots + 1 ≤ new.room
+      → IsKept meaning files goals old → IsKept meaning files goals new
+  job_parked_kept old new job asked worker count place steps answers held own run many ticked given
+      event room kept =
+      let board = old.account.board in
+      let need = position_or_len (is_job (place_of (bare_rules meaning) asked board.slots)) board.needs in
+      event_kept meaning files goals old new (Events.Park worker place need)
+      (subst (λ a. IsLinkedFor meaning a.board.slots) (sym event)
+      (asked_linked board job asked worker count place answers held own run kept.linked))
+      (subst (λ a. length a.board.slots + 1 ≤ new.room) (sym event) room)
+      (λ file e. subst (λ a. IsHistory (rules_of meaning file) meaning.ticks goals a.journal a.board
+      a.spent) (sym event)
+      (subst (IsHistory (rules_of meaning file) meaning.ticks goals
+      (old.account.journal ++ Events.Park worker place need ∷ [])
+      (park_job (bare_rules meaning) place job answers asked board))
+      (sym (steps_same old.account.spent (meaning.ticks job answers) steps ticked))
+      (happens (told_history meaning files goals file old e kept)
+      (asks (holds_of meaning files goals law file board job worker count place answers held own kept.linked (given file e) many) run))))

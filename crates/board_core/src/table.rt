@@ -23,7 +23,9 @@ use board_cycle::cycle_refusal;
 use board_slots::chains::way_to;
 use board_slots::handing::{file_gifts, hand_out, refusal_gifts, value_gifts};
 use board_slots::jobs::{are_over, first_queued, place_of, push_job, texts_at};
-use board_slots::needs::{answer, file_number, found_at, is_open_at, job_number, want_file, want_job, wanted};
+use board_slots::needs::{
+    answer, file_number, found_at, is_open_at, job_number, want_file, want_job, wanted,
+};
 use board_slots::parking::{queue_at, wait_for_file, wait_for_job};
 use board_slots::{Ending, Slot, Wanted};
 use board_work::{Claim, Event, Given, Held, Stop, Work};

@@ -52,12 +52,7 @@ pub fn place_of<W: Work>(work: &W, slots: &[Slot<W>], job: &W::Job) -> usize
 }
 
 /// Adds a job to the list, queued, unless it is there.
-pub fn add_job<W: Work>(
-    alloc: Global,
-    work: &W,
-    slots: &mut Vec<Slot<W>>,
-    job: &W::Job,
-) -> Mem<()>
+pub fn add_job<W: Work>(alloc: Global, work: &W, slots: &mut Vec<Slot<W>>, job: &W::Job) -> Mem<()>
     ensures added { OnOk result (slots.new.items ≡ with_job (bare_rules (W.meaning work.now)) job.now slots.old.items) }
     ensures unchanged { OnErr result (slots.new.items ≡ slots.old.items) }
 {

@@ -10,7 +10,7 @@ returns g c =
     let slots = c.args.slots.now.items in
     let here = c.index_mut-slot.result.now in
     let stood : slice_get slots c.args.held.place ≡ Some here =
-        slice_get_read slots (length slots) c.args.held.place here refl (search rules)
-        c.index_mut-slot.ensures.value in
+    slice_get_read slots (length slots) c.args.held.place here refl (search rules)
+    c.index_mut-slot.ensures.value in
     ap (slice_set slots c.args.held.place) c.queue.ensures
     ∙ sym (put-set (λ one. record { job = one.job; state = Queued (answer_of c.args.given ∷ g.W.Work.answers_of c.args.part) }) slots c.args.held.place here stood)
