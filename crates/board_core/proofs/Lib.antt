@@ -2,3 +2,4 @@ pub mod Events
 pub mod FileParks
 pub mod Keeping
 pub mod TableClaims
+pub mod JobParks

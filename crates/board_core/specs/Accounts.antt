@@ -1,14 +1,15 @@
 -- What contracts see of a board: how it stands, what happened on it, and the steps spent.
 use Rattle.std.specs.Prelude.{ℕ, ◌+◌, ◌≤◌, List, [], ◌∷◌, ◌++◌, ◌≡◌, min, suc}
-use Rattle.std.specs.Prelude.{Result, Ok, Err, MatchBool, None, length, if◌then◌else◌}
+use Rattle.std.specs.Prelude.{Result, Ok, Err, MatchBool, None, Option, length, option_map, if◌then◌else◌}
+use Rattle.board_laws.specs.Recursive.{cycle_of}
 use Rattle.bz_base.specs.declared.refusals.Refusal.{Refusal}
 use Rattle.bz_base.specs.Counts.{last_count}
 use Rattle.bz_tree.specs.declared.tree.Found.{Found}
 use Rattle.board_laws.specs.Works.{Answer, Rules}
-use Rattle.board_machine.specs.Boards.{Board, File, OnFile, Slot}
+use Rattle.board_machine.specs.Boards.{Board, File, Job, OnFile, Queued, Slot, jobs_at, way_to}
 use Rattle.board_machine.specs.Events
 use Rattle.board_machine.specs.Events.{Event, begin}
-use Rattle.board_machine.specs.Moves.{halt, is_file, is_queued, set_state, with_need}
+use Rattle.board_machine.specs.Moves.{halt, is_file, is_job, is_queued, set_state, with_need}
 
 pub record Account (J V : Type 0) : Type 0 where
   pub board : Board J Found V Refusal
@@ -70,3 +71,25 @@ waiting_for_file place answers need path board =
       needs = with_need (is_file path) (File path None) board.needs;
       halted = board.halted;
     }
+
+-- these jobs stand, and the need of the job at a place stands in the list of needs
+abbrev pub wanting_job : {J V : Type 0} → ℕ → List (Slot J Found V Refusal)
+    → Board J Found V Refusal → Board J Found V Refusal
+wanting_job other slots board =
+    record {
+      goals = board.goals;
+      slots = slots;
+      needs = with_need (is_job other) (Job other) board.needs;
+      halted = board.halted;
+    }
+
+-- one job more, queued
+abbrev pub with_new : {J V : Type 0} → J → List (Slot J Found V Refusal)
+    → List (Slot J Found V Refusal)
+with_new job slots = slots ++ record { job = job; state = Queued [] } ∷ []
+
+-- the refusal of the cycle that a job closes by asking the job at another place, if it closes one
+abbrev pub cycle_closed : {J V : Type 0} → Rules J (List ℕ) Found V Refusal → J → ℕ → ℕ
+    → List (Slot J Found V Refusal) → Option Refusal
+cycle_closed rules job place other slots =
+    option_map (λ places. cycle_of rules (job ∷ jobs_at slots places)) (way_to slots place other)

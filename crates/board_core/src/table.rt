@@ -1,29 +1,33 @@
 //! How a board stands, and the events that change it, whatever its work is.
 ghost use Rattle.std.specs.Prelude.{◌≡◌, ◌≤◌, ◌<◌, ◌+◌, [], true, false, Some, IfOk, length};
-ghost use Rattle.std.specs.Prelude.{is_some, slice_get, vec_len, option_map, map};
-ghost use Rattle.board_core.specs.Accounts.{HasRoom, IsEvent, IsHalted, ended, noted, waiting_for_file};
+ghost use Rattle.std.specs.Prelude.{is_some, nat_lt, slice_get, vec_len, option_map, map};
+ghost use Rattle.board_core.specs.Accounts.{HasRoom, IsEvent, IsHalted, cycle_closed, ended, noted, waiting_for_file, wanting_job, with_new};
 ghost use Rattle.board_core.specs.Claims.{ClaimGives, IsQueuedAt, IsTakenAt, claim_count};
-ghost use Rattle.board_machine.specs.Boards.{Queued};
+ghost use Rattle.board_machine.specs.Boards.{OnJob, Queued};
 ghost use Rattle.board_machine.specs.Events.{Finish, Park, Shelve};
 ghost use Rattle.board_laws.specs.Works;
 ghost use Rattle.std.specs.Arc.{arc_value};
 ghost use Rattle.std.specs.List.{position_or_len};
 ghost use Rattle.std.specs.Prelude.{◌∷◌};
 ghost use Rattle.board_machine.specs.Moves.{finish_refused, finish_value, is_over};
-ghost use Rattle.board_machine.specs.Moves.{is_file, set_state, shelve, with_slots};
+ghost use Rattle.board_machine.specs.Moves.{is_file, is_job, place_of, set_state, shelve, spread_refusal, with_slots};
 ghost use Rattle.board_slots.specs.Claims.{IsReturnedAt, is_held};
 ghost use Rattle.board_slots.specs.Needs.{IsFirstOpen, found_in, is_open_at};
-ghost use Rattle.board_slots.specs.Views.{outcome_of};
+ghost use Rattle.board_slots.specs.Views.{bare_rules, outcome_of, result_in};
 ghost use Rattle.board_core.specs.Calls.{job_at, outcome_in};
 ghost use Rattle.board_core.specs.Journals.{event_of};
 ghost use Rattle.std.specs.Option.{option_copied};
 
 use crate::journal::Journal;
+use board_cycle::cycle_refusal;
+use board_slots::chains::way_to;
 use board_slots::handing::{file_gifts, hand_out, refusal_gifts, value_gifts};
-use board_slots::jobs::{are_over, first_queued};
-use board_slots::needs::{answer, file_number, found_at, is_open_at, want_file, wanted};
-use board_slots::parking::{queue_at, wait_for_file};
-use board_slots::{Slot, Wanted};
+use board_slots::jobs::{are_over, first_queued, place_of, push_job, texts_at};
+use board_slots::needs::{
+    answer, file_number, found_at, is_open_at, job_number, want_file, want_job, wanted,
+};
+use board_slots::parking::{queue_at, wait_for_file, wait_for_job};
+use board_slots::{Ending, Slot, Wanted};
 use board_work::{Claim, Event, Given, Held, Stop, Work};
 use bz_base::{Mem, Refusal, TreePath};
 use bz_tree::Found;
@@ -201,6 +205,175 @@ impl<W: Work> Table<W> {
         self.journal.make_room(self.slots.len() + 2)?;
         want_file(&mut self.needs, need, path)?;
         wait_for_file(&mut self.slots, held, part, need);
+        self.journal.write(Event::Park {
+            worker,
+            job,
+            need: need as u64,
+        });
+        self.spent = self.spent.saturating_add(steps);
+        Ok(())
+    }
+
+    /// The place of a job, or that which it would have.
+    pub fn place_of(&self, work: &W, job: &W::Job) -> usize
+        ensures { result ≡ place_of (bare_rules (W.meaning work.now)) job.now self.now.account.board.slots }
+    {
+        place_of(work, &self.slots, job)
+    }
+
+    pub fn has_place(&self, place: usize) -> bool
+        ensures { result ≡ nat_lt place (length self.now.account.board.slots) }
+    {
+        place < self.slots.len()
+    }
+
+    /// The number of a job's need, or that which it would have.
+    pub fn job_number(&self, place: usize) -> usize
+        ensures { result ≡ position_or_len (is_job place) self.now.account.board.needs }
+    {
+        job_number(&self.needs, place)
+    }
+
+    /// What the job at a place came to, to be handed on.
+    pub fn ending(&self, place: usize) -> Mem<Ending<W::Value>>
+        ensures { IfOk result (λ ending. result_in ending ≡ outcome_in (slice_get self.now.account.board.slots place)) }
+    {
+        match self.slots.get(place) {
+            Some(slot) => slot.ending(),
+            None => Ok(Ending::Open),
+        }
+    }
+
+    /// The refusal of the cycle that the job at a place closes where it asks the one at another.
+    pub fn cycle(
+        &self,
+        alloc: Global,
+        work: &W,
+        job: &W::Job,
+        place: usize,
+        other: usize,
+    ) -> Mem<Option<Arc<Refusal>>>
+        ensures { IfOk result (λ refusal. option_map arc_value refusal ≡ cycle_closed (bare_rules (W.meaning work.now)) job.now place other self.now.account.board.slots) }
+    {
+        match way_to(alloc, &self.slots, place, other)? {
+            None => Ok(None),
+            Some(places) => {
+                let texts = texts_at(alloc, work, &self.slots, job, places.as_slice())?;
+                let refusal = cycle_refusal(alloc, texts.as_slice())?;
+                Ok(Some(Arc::new(alloc, refusal)?))
+            }
+        }
+    }
+
+    /// The claimed job goes on at once with another one's value.
+    pub fn go_on_with(
+        &mut self,
+        held: Held<W>,
+        part: W::Part,
+        need: usize,
+        other: usize,
+        value: Arc<W::Value>,
+        steps: u64,
+    ) -> Mem<()>
+        requires number { need ≡ position_or_len (is_job other) self.old.account.board.needs }
+        requires within { held.place < length self.old.account.board.slots }
+        requires returned { IsReturnedAt W.job_of W.answers_of held part self.old.account.board.slots }
+        ensures { IsEvent self.old self.new (ended (Park held.worker held.place need) steps (wanting_job other (set_state held.place (Queued (Works.Value (arc_value value) ∷ W.answers_of part)) self.old.account.board.slots) self.old.account.board) self.old.account) result }
+    {
+        let worker = held.worker;
+        let job = held.place;
+        self.journal.make_room(self.slots.len() + 2)?;
+        want_job(&mut self.needs, need, other)?;
+        queue_at(&mut self.slots, held, part, Given::Value(value));
+        self.journal.write(Event::Park {
+            worker,
+            job,
+            need: need as u64,
+        });
+        self.spent = self.spent.saturating_add(steps);
+        Ok(())
+    }
+
+    /// The claimed job is refused as another one is, or with the cycle that it closes.
+    pub fn pass_refusal(
+        &mut self,
+        alloc: Global,
+        worker: u32,
+        place: usize,
+        need: usize,
+        other: usize,
+        refusal: &Arc<Refusal>,
+        steps: u64,
+    ) -> Mem<()>
+        requires number { need ≡ position_or_len (is_job other) self.old.account.board.needs }
+        ensures { IsEvent self.old self.new (ended (Park worker place need) steps (wanting_job other (spread_refusal place (arc_value refusal.now) self.old.account.board.slots) self.old.account.board) self.old.account) result }
+    {
+        let gifts = refusal_gifts(alloc, &self.slots, place, refusal)?;
+        self.journal.make_room(self.slots.len() + 2)?;
+        want_job(&mut self.needs, need, other)?;
+        hand_out(&mut self.slots, gifts);
+        self.journal.write(Event::Park {
+            worker,
+            job: place as u64,
+            need: need as u64,
+        });
+        self.spent = self.spent.saturating_add(steps);
+        Ok(())
+    }
+
+    /// The claimed job waits for another one.
+    pub fn wait_for(
+        &mut self,
+        held: Held<W>,
+        part: W::Part,
+        need: usize,
+        other: usize,
+        steps: u64,
+    ) -> Mem<()>
+        requires number { need ≡ position_or_len (is_job other) self.old.account.board.needs }
+        requires within { held.place < length self.old.account.board.slots }
+        requires returned { IsReturnedAt W.job_of W.answers_of held part self.old.account.board.slots }
+        ensures { IsEvent self.old self.new (ended (Park held.worker held.place need) steps (wanting_job other (set_state held.place (OnJob (W.answers_of part) need other) self.old.account.board.slots) self.old.account.board) self.old.account) result }
+    {
+        let worker = held.worker;
+        let job = held.place;
+        self.journal.make_room(self.slots.len() + 2)?;
+        want_job(&mut self.needs, need, other)?;
+        wait_for_job(&mut self.slots, held, part, need, other);
+        self.journal.write(Event::Park {
+            worker,
+            job,
+            need: need as u64,
+        });
+        self.spent = self.spent.saturating_add(steps);
+        Ok(())
+    }
+
+    /// The claimed job waits for one that is new on the board.
+    pub fn wait_for_new(
+        &mut self,
+        alloc: Global,
+        work: &W,
+        held: Held<W>,
+        part: W::Part,
+        need: usize,
+        asked: W::Job,
+        steps: u64,
+    ) -> Mem<()>
+        requires number { need ≡ position_or_len (is_job (length self.old.account.board.slots)) self.old.account.board.needs }
+        requires within { held.place < length self.old.account.board.slots }
+        requires returned { IsReturnedAt W.job_of W.answers_of held part self.old.account.board.slots }
+        ensures { IsEvent self.old self.new (ended (Park held.worker held.place need) steps (wanting_job (length self.old.account.board.slots) (set_state held.place (OnJob (W.answers_of part) need (length self.old.account.board.slots)) (with_new asked self.old.account.board.slots)) self.old.account.board) self.old.account) result }
+    {
+        let worker = held.worker;
+        let job = held.place;
+        let other = self.slots.len();
+        let copy = work.copy_job(alloc, &asked)?;
+        self.slots.reserve(1)?;
+        self.journal.make_room(other + 3)?;
+        want_job(&mut self.needs, need, other)?;
+        push_job(&mut self.slots, asked, copy);
+        wait_for_job(&mut self.slots, held, part, need, other);
         self.journal.write(Event::Park {
             worker,
             job,

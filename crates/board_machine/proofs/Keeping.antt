@@ -144,7 +144,7 @@ module _ {J A V R : Type 0} (rules : Rules J (List ℕ) A V R) where
   claimed_none e = ap next_of e
 
   -- where the asked job stands
-  asked_stands : (law : Lawful rules) (asked : J) (slots : List (Slot J A V R))
+  pub asked_stands : (law : Lawful rules) (asked : J) (slots : List (Slot J A V R))
       → rules.own asked ≡ true → IsLinked rules slots
       → (one : Slot J A V R)
       × (slice_get (with_job rules asked slots) (place_of rules asked slots) ≡ Some one)
@@ -175,7 +175,7 @@ module _ {J A V R : Type 0} (rules : Rules J (List ℕ) A V R) where
         refl,
       )
 
-  still_stands : (asked : J) (slots : List (Slot J A V R)) (place : ℕ) (slot : Slot J A V R)
+  pub still_stands : (asked : J) (slots : List (Slot J A V R)) (place : ℕ) (slot : Slot J A V R)
       → slice_get slots place ≡ Some slot → slice_get (with_job rules asked slots) place ≡ Some slot
   still_stands asked slots place slot h = go (nat_lt (place_of rules asked slots) (length slots))
     where

@@ -5,4 +5,5 @@ pub mod Sounds
 pub mod Steps
 pub mod Links
 pub mod Keeping
+pub mod Asks
 pub mod Whole

@@ -1,3 +1,4 @@
 pub mod GiftLists
 pub mod Opens
 pub mod Ways
+pub mod CycleTexts

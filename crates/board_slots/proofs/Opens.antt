@@ -1,5 +1,5 @@
 -- The first need that is open.
-use Rattle.std.proofs.Common.{◌≡◌, ℕ, true, false, List, length, refl, ap, sym, ◌∙◌, Option, Some, ◌≤◌}
+use Rattle.std.proofs.Common.{◌≡◌, ℕ, true, false, List, length, ap, sym, ◌∙◌, Option, Some, ◌≤◌}
 use Rattle.std.proofs.Common.{None, slice_get, ◌⊎◌, inl, inr, subst, arith}
 use Rattle.std.proofs.lemmas.Option.{slice_get_within}
 use Rattle.std.specs.Borrow.{Bor}

@@ -17,6 +17,8 @@ use Rattle.board_slots.specs.declared.slot.State.TheVariants.{Queued, Claimed, O
 use Rattle.board_slots.specs.declared.slot.State.TheVariants.{Refused}
 use Rattle.board_slots.specs.declared.gifts.Gift.{Gift}
 use Rattle.board_slots.specs.declared.gifts.Gift
+use Rattle.board_slots.specs.declared.gifts.Ending.{Ending}
+use Rattle.board_slots.specs.declared.gifts.Ending
 use Rattle.board_slots.specs.declared.wanted.Asked.{Asked}
 use Rattle.board_slots.specs.declared.wanted.Asked.TheVariants.{File, Job}
 
@@ -115,6 +117,12 @@ file_need_of (Boards.RefusedWith r) = None
 abbrev pub outcome_of : {V Z : Type 0} → Result (Bor (Arc V Z)) (Bor Refusal) → Result V Refusal
 outcome_of (Ok value) = Ok (arc_value value.now)
 outcome_of (Err refusal) = Err refusal.now
+
+-- the same of a job of which it is handed on
+abbrev pub result_in : {V : Type 0} → Ending V → Option (Result V Refusal)
+result_in Ending.TheVariants.Open = None
+result_in (Ending.TheVariants.Value value) = Some (Ok (arc_value value))
+result_in (Ending.TheVariants.Refusal refusal) = Some (Err (arc_value refusal))
 
 -- the job at that place is handed the gift
 abbrev pub IsGiftOf : {J V : Type 0} → ℕ → Option (Gift V) → List (Boards.Slot J Found V Refusal)

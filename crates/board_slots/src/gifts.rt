@@ -1,4 +1,4 @@
-//! What a job on the board is handed.
+//! What a job on the board is handed, and what it came to.
 use board_work::Given;
 use bz_base::Refusal;
 use std::sync::Arc;
@@ -7,6 +7,14 @@ use std::sync::Arc;
 #[derive(Drop)]
 pub enum Gift<V> {
     Answer(Given<V>),
+    Value(Arc<V>),
+    Refusal(Arc<Refusal>),
+}
+
+/// What a job came to, if it is done.
+#[derive(Drop)]
+pub enum Ending<V> {
+    Open,
     Value(Arc<V>),
     Refusal(Arc<Refusal>),
 }

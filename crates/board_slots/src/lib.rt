@@ -21,6 +21,6 @@ pub mod parking;
 pub mod slot;
 pub mod wanted;
 
-pub use gifts::Gift;
+pub use gifts::{Ending, Gift};
 pub use slot::Slot;
 pub use wanted::Wanted;

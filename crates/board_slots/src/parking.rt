@@ -24,12 +24,7 @@ pub fn queue_at<W: Work>(
 }
 
 /// The job waits for a file.
-pub fn wait_for_file<W: Work>(
-    slots: &mut Vec<Slot<W>>,
-    held: Held<W>,
-    part: W::Part,
-    need: usize,
-)
+pub fn wait_for_file<W: Work>(slots: &mut Vec<Slot<W>>, held: Held<W>, part: W::Part, need: usize)
     requires within { held.place < vec_len slots.old }
     requires returned { IsReturnedAt W.job_of W.answers_of held part slots.old.items }
     ensures { slots.new.items ≡ set_state held.place (OnFile (W.answers_of part) need) slots.old.items }

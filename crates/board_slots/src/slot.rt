@@ -1,16 +1,16 @@
 //! A job on a board, and where it stands.
-ghost use Rattle.std.specs.Prelude.{◌≡◌, ◌∷◌, [], true, option_map};
+ghost use Rattle.std.specs.Prelude.{◌≡◌, ◌∷◌, [], true, IfOk, option_map};
 ghost use Rattle.std.specs.Arc.{arc_value};
 ghost use Rattle.board_machine.specs.Boards.{OnFile, OnJob, Queued, next_of};
 ghost use Rattle.board_machine.specs.Events.{result_of};
 ghost use Rattle.board_machine.specs.Moves.{is_queued};
 ghost use Rattle.board_slots.specs.Claims.{IsReturned, IsTaken, is_claimed_by};
-ghost use Rattle.board_slots.specs.Views.{file_need_of, handed_state, outcome_of, woken};
+ghost use Rattle.board_slots.specs.Views.{file_need_of, handed_state, outcome_of, result_in, woken};
 ghost use Rattle.board_work.specs.Turns.{answer_of};
 
-use crate::gifts::Gift;
+use crate::gifts::{Ending, Gift};
 use board_work::{Claim, Given, Held, Work};
-use bz_base::Refusal;
+use bz_base::{Mem, Refusal};
 use std::marker::Model;
 use std::mem;
 use std::sync::Arc;
@@ -120,6 +120,17 @@ impl<W: Work> Slot<W> {
             State::Valued(value) => Some(Ok(value)),
             State::Refused(refusal) => Some(Err(&**refusal)),
             _ => None,
+        }
+    }
+
+    /// The same, to be handed on.
+    pub fn ending(&self) -> Mem<Ending<W::Value>>
+        ensures { IfOk result (λ ending. result_in ending ≡ result_of self.now.state) }
+    {
+        match &self.state {
+            State::Valued(value) => Ok(Ending::Value(Arc::try_clone(value)?)),
+            State::Refused(refusal) => Ok(Ending::Refusal(Arc::try_clone(refusal)?)),
+            _ => Ok(Ending::Open),
         }
     }
 
