@@ -23,8 +23,14 @@ pub record Meaning (J V : Type 0) : Type 0 where
 abbrev pub rules_of : {J V : Type 0} → Meaning J V → (List ℕ → Found)
     → Rules J (List ℕ) Found V Refusal
 rules_of meaning file =
-    record { run = meaning.run; file = file; text = meaning.text; own = meaning.own; cycle =
-    cycle_refusal }
+    record {
+      run = meaning.run;
+      file = file;
+      text = meaning.text;
+      own = meaning.own;
+      cycle =
+          cycle_refusal;
+    }
 
 abbrev pub answer_of : {V : Type 0} → Given V → Answer Found V
 answer_of (Given.TheVariants.File found) = Works.Found (arc_value found)

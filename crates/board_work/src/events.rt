@@ -22,9 +22,22 @@ pub enum Parked {
 /// One event; jobs and needs are places in the board's lists.
 #[derive(Clone, Copy, Debug, PartialEq, Eq)]
 pub enum Event {
-    Claim { worker: u32, job: u64 },
-    Park { worker: u32, job: u64, need: u64 },
-    Finish { worker: u32, job: u64, refused: bool },
-    Shelve { need: u64 },
+    Claim {
+        worker: u32,
+        job: u64,
+    },
+    Park {
+        worker: u32,
+        job: u64,
+        need: u64,
+    },
+    Finish {
+        worker: u32,
+        job: u64,
+        refused: bool,
+    },
+    Shelve {
+        need: u64,
+    },
     Halt,
 }
