@@ -36,7 +36,7 @@ use Rattle.bz_base.proofs.PlainLayers.{items_within-suc, pairs_within-suc, plain
 
 -- ---- labels
 
-abbrev IsLabelText : List ℕ → Label → Type 0
+pub abbrev IsLabelText : List ℕ → Label → Type 0
 IsLabelText text label = (label_text label ≡ text) × (is_label label ≡ true)
 
 target-origin : (text repo rest : List ℕ)
@@ -77,7 +77,7 @@ rooted-origin text rest e = by (cut 47 rest) (IsCut-cut 47 rest)
     by None h = tt
     by (Some parts) h = further parts.0 parts.1 h.0 (behind 47 parts.1) (IsBehind-behind 47 parts.1)
 
-label_of-origin : (text : List ℕ) → IfOk (label_of text) (IsLabelText text)
+pub label_of-origin : (text : List ℕ) → IfOk (label_of text) (IsLabelText text)
 unfolding label_of
 label_of-origin text = by (behind 64 text) (IsBehind-behind 64 text)
   where

@@ -47,9 +47,9 @@ pub use label_names::{is_apparent, is_canonical, is_package, is_segment, is_segm
 pub use labels::Label;
 pub use module_graph::{Chosen, Graph, GraphNode, Selected};
 pub use module_key::Key;
-pub use plain_labels::NotPlain;
+pub use plain_labels::{NotPlain, read_label};
 pub use plain_reading::plain_of_json;
-pub use plain_texts::plain_json;
+pub use plain_texts::{label_string, plain_json};
 pub use plain_values::{Named, Plain, PlainPair};
 pub use refusals::{Code, Refusal};
 pub use step_count::Steps;

@@ -15,9 +15,9 @@ use std::alloc::Global;
 #[derive(Clone, Copy, Debug, PartialEq, Eq)]
 pub struct NotPlain;
 
-/// The label with this text.
+/// The label that is printed as this text, `@@REPO//PACKAGE:NAME`; `NotPlain` where there is none.
 #[tactic(auto, unfolding(crate::specs::PlainLabels::label_of))]
-pub(crate) fn read_label(alloc: Global, text: &str) -> May<Label, NotPlain>
+pub fn read_label(alloc: Global, text: &str) -> May<Label, NotPlain>
     ensures { Gives (label_of text.now) result }
 {
     match text_behind_marks(text) {

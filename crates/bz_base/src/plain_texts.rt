@@ -80,7 +80,8 @@ fn tagged_value(alloc: Global, tag: &str, value: Value) -> Mem<Value>
     Ok(Value::Object(members))
 }
 
-fn label_string(alloc: Global, label: &Label) -> Mem<String>
+/// How a label is printed: `@@REPO//PACKAGE:NAME`.
+pub fn label_string(alloc: Global, label: &Label) -> Mem<String>
     ensures { IfOk result (λ text. string_bytes text ≡ label_text label.now) }
 {
     let mut text = String::from_str(alloc, "@@")?;
