@@ -36,7 +36,7 @@ use Rattle.bz_base.proofs.PlainLayers.{items_within-suc, pairs_within-suc, plain
 
 -- ---- labels
 
-pub abbrev IsLabelText : List ℕ → Label → Type 0
+abbrev pub IsLabelText : List ℕ → Label → Type 0
 IsLabelText text label = (label_text label ≡ text) × (is_label label ≡ true)
 
 target-origin : (text repo rest : List ℕ)
