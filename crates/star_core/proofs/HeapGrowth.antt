@@ -252,6 +252,7 @@ cell_extends round before now (cell.Function function) grows stands =
       file_stands = stands.file_stands;
       well_formed = stands.well_formed;
       code_stands = stands.code_stands;
+      name_stands = stands.name_stands;
       defaults_stand = stands.defaults_stand;
       values_stand = All-weaker (IsValueOf before) (IsValueOf now)
           (λ item is. value_extends before now item grows is) function.defaults

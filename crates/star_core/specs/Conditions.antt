@@ -1,7 +1,7 @@
 -- What an evaluation may rest on of its heap: that each cell is good, over its files and how many
 -- scopes of variables there are.
-use Rattle.std.specs.Prelude.{◌≡◌, ◌≢◌, ◌<◌, ◌≤◌, ℕ, suc, All, AllPairs, IsTrue, List, [], ◌∷◌}
-use Rattle.std.specs.Prelude.{length, Some, Ok, pos, slice_get, ⊤}
+use Rattle.std.specs.Prelude.{◌≡◌, ◌≢◌, ◌<◌, ◌≤◌, suc, All, AllPairs, IsTrue, List, [], ◌∷◌}
+use Rattle.std.specs.Prelude.{length, Option, None, Some, Ok, pos, slice_get, ⊤, ℕ, codes}
 use Rattle.bz_base.specs.Labels.{IsLabel}
 use Rattle.bz_base.specs.Names.{is_canonical}
 use Rattle.star_core.specs.Contents.{key_content}
@@ -34,7 +34,13 @@ default_count (param.Bare ∷ params) = default_count params
 default_count (param.Rest name ∷ params) = default_count params
 default_count (param.Keywords name ∷ params) = default_count params
 
--- a function is one of a well-formed file, with a value for each default, in a scope that is there
+-- the name of a function; a `lambda` has none of its own
+abbrev pub printed_name : Option (List ℕ) → List ℕ
+printed_name None = codes "lambda"
+printed_name (Some name) = name
+
+-- a function is one of a well-formed file, under its name, with a value for each default, in a scope
+-- that is there
 pub record IsFunctionOf (round : Surroundings) (heap : HeapState) (function : Function)
     : Type 0 where
   pub file : File
@@ -42,6 +48,7 @@ pub record IsFunctionOf (round : Surroundings) (heap : HeapState) (function : Fu
   pub file_stands : slice_get round.files function.file ≡ Some file
   pub well_formed : WellFormed file
   pub code_stands : slice_get file.functions function.function ≡ Some code
+  pub name_stands : function.name ≡ printed_name code.name
   pub defaults_stand : length function.defaults ≡ default_count code.params
   pub values_stand : All (IsValueOf heap) function.defaults
   pub scope_stands : function.around < round.scopes

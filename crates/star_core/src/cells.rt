@@ -7,6 +7,8 @@ use bz_text::{Seq, Txt};
 /// A function that a `def` or a `lambda` made.
 #[derive(Drop)]
 pub struct Function {
+    /// Its name, which of a `lambda` is `lambda`.
+    pub name: Txt,
     /// Which of the evaluation's files defines it.
     pub file: usize,
     /// Which of that file's functions it is.

@@ -1,5 +1,6 @@
 //! Dictionaries: the Starlark specification, "Dictionaries".
-ghost use Rattle.std.specs.Prelude.{◌≡◌, [], OnErr, OnOk, length, option_copied};
+ghost use Rattle.std.specs.Prelude.{◌≡◌, [], IfNone, IfSome, None, OnErr, OnOk, Some, length};
+ghost use Rattle.std.specs.Prelude.{option_copied, slice_get};
 ghost use Rattle.star_core.specs.Dicts.{KeysDiffer, entries_of, entry_of, pair_at, with_entry};
 ghost use Rattle.star_core.specs.Dicts.{without_entry};
 
@@ -61,6 +62,16 @@ impl Dict {
         ensures { option_copied result ≡ pair_at self.now index }
     {
         Some(self.pairs.get_index(index)?.1)
+    }
+
+    /// The content and the pair of the key with this number, in order.
+    pub fn entry_at(&self, index: usize) -> Option<(&str, &Pair)>
+        ensures absent { IfNone result (slice_get self.now index ≡ None) }
+        ensures entry { IfSome result (λ entry. slice_get self.now index
+            ≡ Some (record { content = entry.0.now; pair = entry.1.now })) }
+    {
+        let (content, pair) = self.pairs.get_index(index)?;
+        Some((content.as_str(), pair))
     }
 
     /// Puts a pair under its key's content: where that stands the pair takes the place of the one

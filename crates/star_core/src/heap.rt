@@ -63,6 +63,11 @@ impl Heap {
         }
     }
 
+    /// The allocator that the heap keeps.
+    pub fn alloc(&self) -> Global {
+        self.alloc
+    }
+
     /// A new cell.
     pub fn make(&mut self, cell: Cell) -> May<Val, Fault>
         ensures { Makes (made cell self.old) result self.old self.new }

@@ -41,6 +41,13 @@ impl<T> Stack<T> {
         self.items.len()
     }
 
+    /// The items, the top last.
+    pub fn top_last(&self) -> &[T]
+        ensures { reverse result.now ≡ self.now }
+    {
+        self.items.as_slice()
+    }
+
     /// Takes the top; None where the stack is empty.
     pub fn pop(&mut self) -> Option<T>
         ensures { MatchOption result ((self.old ≡ []) × (self.new ≡ []))
