@@ -1,0 +1,10 @@
+use Rattle.std.proofs.Common.{◌≡◌, ◌++◌, [], ◌∷◌, take}
+use Rattle.std.specs.List.{flat_map}
+use Rattle.star_print.specs.Forms.{field_pieces}
+use Rattle.star_print.specs.declared.forms.Piece.TheVariants as piece
+use Rattle.star_print.proofs.pieces.push_fields.Given as goal
+
+abbrev pub invariant-listing : goal.invariant-listing
+invariant-listing l =
+    l.pieces.items ≡ l.initial.pieces.items
+    ++ flat_map (λ field. piece.Comma ∷ [] ++ field_pieces field) (take l.field-index l.fields)

@@ -1,0 +1,4 @@
+pub mod Escapes
+pub mod FieldOrder
+pub mod Forms
+pub mod Prints

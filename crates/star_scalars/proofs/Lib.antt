@@ -1,0 +1,6 @@
+mod Cuts
+mod Finding
+mod LineCuts
+mod MirrorImages
+mod ScalarCuts
+mod WordCuts

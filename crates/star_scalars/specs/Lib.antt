@@ -1,0 +1,4 @@
+pub mod Letters
+pub mod Searches
+pub mod Pieces
+pub mod Lines

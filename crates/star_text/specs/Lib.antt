@@ -1,0 +1,5 @@
+pub mod Answers
+pub mod ArgumentValues
+pub mod MethodNames
+pub mod Positions
+pub mod Rows

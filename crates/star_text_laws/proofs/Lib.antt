@@ -1,0 +1,6 @@
+mod Firsts
+mod LastPieces
+mod Lasts
+mod Pieces
+mod Replaced
+mod Wholes
