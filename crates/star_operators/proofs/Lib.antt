@@ -1,0 +1,4 @@
+pub mod CopiedEntries
+pub mod Parts
+pub mod Repeated
+pub mod UnitedEntries

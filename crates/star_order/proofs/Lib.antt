@@ -1,0 +1,4 @@
+pub mod ContentLayers
+pub mod EntryWalks
+pub mod Layers
+pub mod RangeLaws
