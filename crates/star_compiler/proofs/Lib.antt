@@ -1,0 +1,6 @@
+pub mod ExprArms
+pub mod Functions
+pub mod Growing
+pub mod Literals
+pub mod OtherPlaces
+pub mod StmtArms

@@ -1,0 +1,2 @@
+pub mod PushedValues
+pub mod RunningCalls

@@ -1,0 +1,3 @@
+pub mod Configs
+pub mod Steps
+pub mod Outcomes
