@@ -20,10 +20,13 @@ use Rattle.board_machine.specs.Moves.{file_put, is_file, park_file, set_state, w
 use Rattle.board_machine.proofs.Links.{set_state_linked}
 use Rattle.board_slots.specs.Claims.{is_held}
 use Rattle.board_slots.specs.Needs.{found_in}
+use Rattle.board_slots.specs.Views.{bare_rules}
 use Rattle.board_work.specs.Turns.{Meaning, rules_of}
 use Rattle.board_core.specs.Accounts.{Table, ended, waiting_for_file}
 use Rattle.board_core.specs.Histories.{IsHistory, IsKept, IsLinkedFor, happens}
-use Rattle.board_core.proofs.Keeping.{event_kept, held_stands, holds_of, steps_same, told_history}
+use Rattle.board_core.specs.Replays.{IsClaimedAt, IsReplay}
+use Rattle.board_core.specs.Replays
+use Rattle.board_core.proofs.Keeping.{claimed_at, event_kept, held_stands, holds_of, steps_same, told_history}
 
 -- the need of a file that was found stands already
 found_stands : (path : List ℕ) (needs : List (Needed Found)) (need : ℕ) (found : Found)
@@ -131,6 +134,10 @@ module _ {J V : Type 0} (meaning : Meaning J V) (files : Option (List ℕ → Fo
       (subst (λ a. IsLinkedFor meaning a.board.slots) (sym event)
       (put_linked place answers need (slice_get board.needs need) board.slots kept.linked))
       (subst (λ a. length a.board.slots + 1 ≤ new.room) (sym event) room)
+      (subst (λ a. IsReplay (bare_rules meaning) goals a.journal a.board) (sym event)
+      (Replays.happens kept.replay (Replays.reads (subst (IsClaimedAt board worker place job)
+      (sym many) (claimed_at meaning files goals law board job worker count place held own kept.linked))
+      run)))
       (λ file e. subst (λ a. IsHistory (rules_of meaning file) meaning.ticks goals a.journal a.board
       a.spent) (sym event)
       (subst (IsHistory (rules_of meaning file) meaning.ticks goals

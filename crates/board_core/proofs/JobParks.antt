@@ -26,11 +26,13 @@ use Rattle.board_work.specs.Turns.{Meaning, rules_of}
 use Rattle.board_core.specs.Accounts.{Table, cycle_closed, ended, wanting_job, with_new}
 use Rattle.board_core.specs.Calls.{outcome_in}
 use Rattle.board_core.specs.Histories.{IsHistory, IsKept, IsLinkedFor, happens}
-use Rattle.board_core.proofs.Keeping.{event_kept, held_stands, holds_of, steps_same, told_history}
+use Rattle.board_core.specs.Replays.{IsClaimedAt, IsReplay}
+use Rattle.board_core.specs.Replays
+use Rattle.board_core.proofs.Keeping.{claimed_at, event_kept, held_stands, holds_of, steps_same, told_history}
 
 module _ {J V : Type 0} (rules : Rules J (List ℕ) Found V Refusal) where
   -- what becomes of a claimed job, by what the asked one came to
-  put_value : (place : ℕ) (job : J) (answers : List (Answer Found V)) (need other : ℕ)
+  pub put_value : (place : ℕ) (job : J) (answers : List (Answer Found V)) (need other : ℕ)
       (way : Option (List ℕ)) (state : State Found V Refusal) (slots : List (Slot J Found V Refusal))
       (value : V) → result_of state ≡ Some (Ok value)
       → set_state place (Queued (Value value ∷ answers)) slots
@@ -43,7 +45,7 @@ module _ {J V : Type 0} (rules : Rules J (List ℕ) Found V Refusal) where
   put_value place job answers need other way (OnFile given n) slots value e = absurd (cc)
   put_value place job answers need other way (OnJob given n p) slots value e = absurd (cc)
 
-  put_refusal : (place : ℕ) (job : J) (answers : List (Answer Found V)) (need other : ℕ)
+  pub put_refusal : (place : ℕ) (job : J) (answers : List (Answer Found V)) (need other : ℕ)
       (way : Option (List ℕ)) (state : State Found V Refusal) (slots : List (Slot J Found V Refusal))
       (refusal : Refusal) → result_of state ≡ Some (Err refusal)
       → spread_refusal place refusal slots
@@ -56,7 +58,7 @@ module _ {J V : Type 0} (rules : Rules J (List ℕ) Found V Refusal) where
   put_refusal place job answers need other way (OnFile given n) slots refusal e = absurd (cc)
   put_refusal place job answers need other way (OnJob given n p) slots refusal e = absurd (cc)
 
-  put_cycle : (place : ℕ) (job : J) (answers : List (Answer Found V)) (need other : ℕ)
+  pub put_cycle : (place : ℕ) (job : J) (answers : List (Answer Found V)) (need other : ℕ)
       (way : Option (List ℕ)) (state : State Found V Refusal) (slots : List (Slot J Found V Refusal))
       (refusal : Refusal) → result_of state ≡ None
       → option_map (λ places. cycle_of rules (job ∷ jobs_at slots places)) way ≡ Some refusal
@@ -78,7 +80,7 @@ module _ {J V : Type 0} (rules : Rules J (List ℕ) Found V Refusal) where
       let same : refusal ≡ cycle_of rules (job ∷ jobs_at slots places) = cc in
       ap (λ x. spread_refusal place x slots) same
 
-  put_waiting : (place : ℕ) (job : J) (answers : List (Answer Found V)) (need other : ℕ)
+  pub put_waiting : (place : ℕ) (job : J) (answers : List (Answer Found V)) (need other : ℕ)
       (way : Option (List ℕ)) (state : State Found V Refusal) (slots : List (Slot J Found V Refusal))
       → result_of state ≡ None
       → option_map (λ places. cycle_of rules (job ∷ jobs_at slots places)) way ≡ None
@@ -93,17 +95,17 @@ module _ {J V : Type 0} (rules : Rules J (List ℕ) Found V Refusal) where
   put_waiting place job answers need other None (OnJob given n p) slots e f = refl
 
   -- a job that stands isn't added
-  known_job : (asked : J) (slots : List (Slot J Found V Refusal))
+  pub known_job : (asked : J) (slots : List (Slot J Found V Refusal))
       → nat_lt (place_of rules asked slots) (length slots) ≡ true
       → with_job rules asked slots ≡ slots
   known_job asked slots known = ap (λ b. if b then slots else with_new asked slots) known
 
-  state_result : (o : Option (Slot J Found V Refusal)) (r : Option (Result V Refusal))
+  pub state_result : (o : Option (Slot J Found V Refusal)) (r : Option (Result V Refusal))
       → outcome_in o ≡ r → r ≢ None → result_of (state_in o) ≡ r
   state_result None r e off = absurd (off (sym e))
   state_result (Some slot) r e off = e
 
-  state_open : (o : Option (Slot J Found V Refusal)) → outcome_in o ≡ None
+  pub state_open : (o : Option (Slot J Found V Refusal)) → outcome_in o ≡ None
       → result_of (state_in o) ≡ None
   state_open None e = refl
   state_open (Some slot) e = e
@@ -143,6 +145,10 @@ module _ {J V : Type 0} (meaning : Meaning J V) (files : Option (List ℕ → Fo
       (subst (λ a. IsLinkedFor meaning a.board.slots) (sym event)
       (asked_linked board job asked worker count place answers held own run kept.linked))
       (subst (λ a. length a.board.slots + 1 ≤ new.room) (sym event) room)
+      (subst (λ a. IsReplay (bare_rules meaning) goals a.journal a.board) (sym event)
+      (Replays.happens kept.replay (Replays.asks (subst (IsClaimedAt board worker place job)
+      (sym many) (claimed_at meaning files goals law board job worker count place held own kept.linked))
+      run)))
       (λ file e. subst (λ a. IsHistory (rules_of meaning file) meaning.ticks goals a.journal a.board
       a.spent) (sym event)
       (subst (IsHistory (rules_of meaning file) meaning.ticks goals

@@ -27,6 +27,8 @@ use Rattle.board_work.specs.declared.worker.Claim.TheVariants.{Job, Nothing, Fin
 use Rattle.board_slots.specs.Needs.{is_open_at}
 use Rattle.board_core.specs.Calls.{IsGivenRightly}
 use Rattle.board_core.specs.Claims.{ClaimGives, claim_count}
+use Rattle.board_core.specs.Replays.{IsClaimedAt, IsReplay}
+use Rattle.board_core.specs.Replays
 use Rattle.board_machine.proofs.Keeping.{step_kept}
 use Rattle.board_machine.proofs.Links.{hand_file_linked, set_state_linked, spread_refusal_linked, value_linked}
 use Rattle.board_machine.proofs.Whole.{begin_kept}
@@ -71,6 +73,9 @@ module _ {J V : Type 0} (meaning : Meaning J V) (files : Option (List ℕ → Fo
     unchanged_kept old new same more kept =
         record {
           linked = subst (λ a. IsLinkedFor meaning a.board.slots) (sym same) kept.linked;
+          replay =
+              subst (λ a. IsReplay (bare_rules meaning) goals a.journal a.board) (sym same)
+              kept.replay;
           history =
               subst (λ a. IfSome files (λ file. IsHistory (rules_of meaning file) meaning.ticks goals
               a.journal a.board a.spent)) (sym same) kept.history;
@@ -83,13 +88,15 @@ module _ {J V : Type 0} (meaning : Meaning J V) (files : Option (List ℕ → Fo
     pub event_kept : (old new : Table J V) (event : Event)
         → IsLinkedFor meaning new.account.board.slots
         → length new.account.board.slots + 1 ≤ new.room
+        → IsReplay (bare_rules meaning) goals new.account.journal new.account.board
         → ((file : List ℕ → Found) → files ≡ Some file
         → IsHistory (rules_of meaning file) meaning.ticks goals new.account.journal
         new.account.board new.account.spent)
         → IsKept meaning files goals new
-    event_kept old new event linked room history =
+    event_kept old new event linked room replay history =
         record {
           linked = linked;
+          replay = replay;
           history = go files refl;
           room = λ going. let few = queued_few new.account.board.slots in omega arith;
         }
@@ -159,6 +166,33 @@ module _ {J V : Type 0} (meaning : Meaning J V) (files : Option (List ℕ → Fo
         is_given = given;
       }
 
+  -- the same, whatever the files are
+  pub claimed_at : (board : Board J Found V Refusal) (job : J) (worker count place : ℕ)
+      → is_held meaning.text job worker count (slice_get board.slots place) ≡ true
+      → meaning.own job ≡ true → IsLinkedFor meaning board.slots
+      → IsClaimedAt board worker place job count
+  claimed_at board job worker count place held own linked =
+      let r = held_stands meaning.text job worker count place board.slots held in
+      record {
+        slot = r.0;
+        stands = r.1;
+        is_job =
+            (law (λ path. Found.TheVariants.Absent)).same r.0.job job (linked.own place r.0 r.1) own
+            (sym r.3);
+        claimed = r.2;
+      }
+
+  finished_replay : (events : List Event) (board : Board J Found V Refusal) (job : J)
+      (worker count place : ℕ) (outcome : Result V Refusal)
+      → IsClaimedAt board worker place job count
+      → IsReplay (bare_rules meaning) goals events board
+      → IsReplay (bare_rules meaning) goals
+      (events ++ Events.Finish worker place (is_err outcome) ∷ []) (finish_with place outcome board)
+  finished_replay events board job worker count place (Ok value) claimed before =
+      Replays.happens before (Replays.values value claimed)
+  finished_replay events board job worker count place (Err refusal) claimed before =
+      Replays.happens before (Replays.refuses refusal claimed)
+
   finished_linked : (place : ℕ) (outcome : Result V Refusal) (board : Board J Found V Refusal)
       → IsLinkedFor meaning board.slots → IsLinkedFor meaning (finish_with place outcome board).slots
   finished_linked place (Ok value) board linked =
@@ -205,6 +239,9 @@ module _ {J V : Type 0} (meaning : Meaning J V) (files : Option (List ℕ → Fo
       (subst (λ a. IsLinkedFor meaning a.board.slots) (sym event)
       (finished_linked place outcome old.account.board kept.linked))
       (subst (λ a. length a.board.slots + 1 ≤ new.room) (sym event) room)
+      (subst (λ a. IsReplay (bare_rules meaning) goals a.journal a.board) (sym event)
+      (finished_replay old.account.journal old.account.board job worker count place outcome
+      (claimed_at old.account.board job worker count place held own kept.linked) kept.replay))
       (λ file e. subst (λ a. IsHistory (rules_of meaning file) meaning.ticks goals a.journal a.board
       a.spent) (sym event)
       (finished_history file old.account.journal old.account.board old.account.spent job worker count
@@ -258,6 +295,9 @@ module _ {J V : Type 0} (meaning : Meaning J V) (files : Option (List ℕ → Fo
             subst (λ a. IsLinkedFor meaning a.board.slots) (sym claimed.event)
             (set_state_linked (rules_of meaning (λ path. Found.TheVariants.Absent)) place
             (Claimed worker count) board.slots refl tt kept.linked);
+        replay =
+            subst (λ a. IsReplay (bare_rules meaning) goals a.journal a.board) (sym claimed.event)
+            (Replays.happens kept.replay (Replays.claims claimed.not_over claimed.stood refl));
         history =
             subst (λ a. IfSome files (λ file. IsHistory (rules_of meaning file) meaning.ticks goals
             a.journal a.board a.spent)) (sym claimed.event) (go files kept.history);
@@ -306,6 +346,8 @@ module _ {J V : Type 0} (meaning : Meaning J V) (files : Option (List ℕ → Fo
       (hand_file_linked (rules_of meaning (λ path. Found.TheVariants.Absent)) need found board.slots
       kept.linked))
       (subst (λ a. length a.board.slots + 1 ≤ new.room) (sym event) room)
+      (subst (λ a. IsReplay (bare_rules meaning) goals a.journal a.board) (sym event)
+      (Replays.happens kept.replay (Replays.shelves found open_need)))
       (λ file e. subst (λ a. IsHistory (rules_of meaning file) meaning.ticks goals a.journal a.board
       a.spent) (sym event)
       (subst (λ f. IsHistory (rules_of meaning file) meaning.ticks goals
@@ -326,6 +368,9 @@ module _ {J V : Type 0} (meaning : Meaning J V) (files : Option (List ℕ → Fo
       go false e event =
           record {
             linked = subst (λ a. IsLinkedFor meaning a.board.slots) (sym event) kept.linked;
+            replay =
+                subst (λ a. IsReplay (bare_rules meaning) goals a.journal a.board) (sym event)
+                (Replays.happens kept.replay (Replays.halts e));
             history =
                 subst (λ a. IfSome files (λ file. IsHistory (rules_of meaning file) meaning.ticks
                 goals a.journal a.board a.spent)) (sym event) (told files kept.history);
@@ -385,5 +430,6 @@ opened_kept {J} {V} meaning files goals slots new own jobs is room =
     (subst (λ a. IsLinkedFor meaning a.board.slots) (sym made)
     (begin_kept (bare_rules meaning) goals own).linked)
     (subst (λ a. length a.board.slots + 1 ≤ new.room) (sym is) room)
+    (subst (λ a. IsReplay (bare_rules meaning) goals a.journal a.board) (sym made) Replays.opening)
     (λ file e. subst (λ a. IsHistory (rules_of meaning file) meaning.ticks goals a.journal a.board
     a.spent) (sym made) (opening (own_alike meaning file goals own)))

@@ -6,9 +6,7 @@ use Rattle.bz_base.specs.declared.refusals.Refusal.{Refusal}
 use Rattle.board_laws.specs.Works.{Answer, Rules, Turn}
 use Rattle.bz_base.specs.Counts.{last_count}
 use Rattle.board_work.specs.Turns.{Meaning}
-use Rattle.board_work.specs.declared.events.Parked.{Parked}
-use Rattle.board_work.specs.declared.events.Parked.TheVariants.{Waits, Ready, Refused, Cycle, Stray}
-use Rattle.std.specs.Prelude.{IsSome, length, min}
+use Rattle.std.specs.Prelude.{length, min}
 use Rattle.board_laws.specs.Results.{IsGiven}
 use Rattle.board_machine.specs.Boards.{Slot}
 use Rattle.board_machine.specs.Events.{result_of}
@@ -52,13 +50,3 @@ pub record IsAsking {J V : Type 0} (meaning : Meaning J V) (job part_job : J)
   pub many : length answers ≡ count
   pub needs : meaning.run job answers ≡ turn
   pub ticked : steps ≡ min (meaning.ticks job answers) last_count
-
--- what parking a job on a file comes to
-abbrev pub FileParkGives : {J V E : Type 0} → Bool → Option Found → Account J V → Account J V
-    → Account J V → Result Parked E → Type 0
-FileParkGives held found old new after (Ok Stray) = (held ≡ false) × (new ≡ old)
-FileParkGives held found old new after (Ok Ready) = (held ≡ true) × IsSome found × (new ≡ after)
-FileParkGives held found old new after (Ok Waits) = (held ≡ true) × (found ≡ None) × (new ≡ after)
-FileParkGives held found old new after (Ok Refused) = ⊥
-FileParkGives held found old new after (Ok Cycle) = ⊥
-FileParkGives held found old new after (Err e) = new ≡ old

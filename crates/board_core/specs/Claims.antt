@@ -6,6 +6,7 @@ use Rattle.board_laws.specs.Works.{Answer}
 use Rattle.board_machine.specs.Boards.{Slot, Queued}
 use Rattle.board_machine.specs.Events
 use Rattle.board_machine.specs.Moves.{claim, first_queued, is_over, is_queued}
+use Rattle.board_work.specs.declared.turns.Given.{Given}
 use Rattle.board_work.specs.declared.worker.Claim.{Claim}
 use Rattle.board_work.specs.declared.worker.Claim.TheVariants.{Job, Nothing, Finished}
 use Rattle.board_work.specs.declared.worker.Held.{Held}
@@ -29,10 +30,11 @@ IsTakenAt {J = J} {V = V} job_of answers_of worker place old new result =
 
 -- the queued job with the least number is claimed, after the answers with which it is handed out
 pub record IsClaimed {W J P V : Type 0} (job_of : P → J) (worker : ℕ) (old new : Account J V)
-    (held : Held W J P V) (part : Option P) (answers : List (Answer Found V)) : Type 0 where
+    (held : Held W J P V) (part : Option P) (given : Option (Given V))
+    (answers : List (Answer Found V)) : Type 0 where
   pub worker_is : held.worker ≡ worker
   pub place_is : held.place ≡ first_queued old.board.slots
-  pub own : IsPartOf job_of held.job part
+  pub own : IsPartOf job_of held.job part given
   pub stood : slice_get old.board.slots (first_queued old.board.slots)
       ≡ Some (record { job = held.job; state = Queued answers })
   pub many : length answers ≡ held.answers
@@ -54,7 +56,7 @@ pub record IsOver {J V : Type 0} (old new : Account J V) : Type 0 where
 abbrev pub ClaimGives : {W J P V : Type 0} → (P → J) → (P → List (Answer Found V)) → ℕ
     → Account J V → Account J V → Claim W J P V → Type 0
 ClaimGives job_of answers_of worker old new (Job held part given) =
-    IsClaimed job_of worker old new held part (queued_answers answers_of part given)
+    IsClaimed job_of worker old new held part given (queued_answers answers_of part given)
 ClaimGives job_of answers_of worker old new Nothing = IsIdle old new
 ClaimGives job_of answers_of worker old new Finished = IsOver old new
 

@@ -14,7 +14,9 @@ use Rattle.board_machine.specs.Events.{halts, begin}
 use Rattle.board_machine.specs.Kept.{IsLinked}
 use Rattle.board_machine.specs.Moves.{finish_refused, finish_value}
 use Rattle.board_work.specs.Turns.{Meaning, rules_of}
+use Rattle.board_slots.specs.Views.{bare_rules}
 use Rattle.board_core.specs.Accounts.{HasRoom, Table}
+use Rattle.board_core.specs.Replays.{IsReplay}
 
 -- the steps spent once an event has ended a turn, if it did; a count stays at its last value
 abbrev pub spent_after : {J A V R : Type 0} {rules : Rules J (List ℕ) A V R}
@@ -49,6 +51,7 @@ IsLinkedFor meaning slots = IsLinked (rules_of meaning (λ path. Found.TheVarian
 pub record IsKept {J V : Type 0} (meaning : Meaning J V) (files : Option (List ℕ → Found))
     (goals : List J) (table : Table J V) : Type 0 where
   pub linked : IsLinkedFor meaning table.account.board.slots
+  pub replay : IsReplay (bare_rules meaning) goals table.account.journal table.account.board
   pub history : IfSome files (λ file. IsHistory (rules_of meaning file) meaning.ticks goals
       table.account.journal table.account.board table.account.spent)
   pub room : table.account.board.halted ≡ false → HasRoom table

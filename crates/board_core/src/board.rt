@@ -5,24 +5,24 @@ ghost use Rattle.board_laws.specs.Results.{AllOwn, IsGiven};
 ghost use Rattle.board_slots.specs.Views.{bare_rules};
 ghost use Rattle.bz_tree.specs.declared.tree.Found.{Found};
 ghost use Rattle.board_core.specs.Accounts.{IsHalted, ended, noted, opened};
-ghost use Rattle.board_core.specs.Calls.{FileParkGives, HappensIf, IsAsking, IsGivenRightly, job_at, outcome_in};
+ghost use Rattle.board_core.specs.Calls.{HappensIf, IsAsking, IsGivenRightly, job_at, outcome_in};
 ghost use Rattle.board_core.specs.Claims.{ClaimGives};
 ghost use Rattle.board_core.specs.Histories.{IsOutcomeOf, finish_with};
-ghost use Rattle.board_machine.specs.Events.{Finish, Park, Shelve, with_jobs};
-ghost use Rattle.board_machine.specs.Moves.{is_file, park_file, shelve};
-ghost use Rattle.board_laws.specs.Works.{Reads};
-ghost use Rattle.std.specs.List.{position_or_len};
+ghost use Rattle.board_core.specs.Parks.{HeldParkGives};
+ghost use Rattle.board_machine.specs.Events.{Finish, Shelve, with_jobs};
+ghost use Rattle.board_machine.specs.Moves.{shelve};
 ghost use Rattle.board_slots.specs.Claims.{is_held};
-ghost use Rattle.board_slots.specs.Needs.{IsFirstOpen, found_in, is_open_at};
+ghost use Rattle.board_slots.specs.Needs.{IsFirstOpen, is_open_at};
 ghost use Rattle.board_slots.specs.Views.{outcome_of};
 ghost use Rattle.board_core.specs.Journals.{event_of};
 ghost use Rattle.std.specs.Option.{option_copied};
-ghost use Rattle.board_work.specs.Turns.{rules_of};
+ghost use Rattle.board_work.specs.Turns.{need_turn, rules_of};
+ghost use Rattle.board_work.specs.declared.turns.Need.TheVariants.{File, Job};
 
 use crate::table::Table;
 use board_slots::Slot;
 use board_slots::jobs::add_job;
-use board_work::{BoardOf, Claim, Event, Held, Parked, Stop, Work};
+use board_work::{BoardOf, Claim, Event, Held, Need, Parked, Stop, Work};
 use bz_base::{Mem, OutOfMemory, Refusal, Seq, TreePath};
 use bz_tree::Found;
 use std::alloc::Global;
@@ -71,8 +71,31 @@ impl<W: Work, N: BoardOf<W>> Board<W, N> {
         self.table.claim(worker)
     }
 
+    /// Parks a claimed job on its next need. It is Stray where the job isn't held, and then nothing
+    /// changes.
+    pub fn park(
+        &mut self,
+        alloc: Global,
+        work: &W,
+        held: Held<W>,
+        part: W::Part,
+        need: Need<W::Job>,
+        spent: u64,
+    ) -> Mem<Parked>
+        requires named { work.now ≡ N.work }
+        requires own { (W.meaning N.work).own held.job ≡ true }
+        requires asking { IsAsking (W.meaning N.work) held.job (W.job_of part) (W.answers_of part) held.answers (need_turn need) spent }
+        requires given { (file : List ℕ → Found) → N.files ≡ Some file → IsGiven (rules_of (W.meaning N.work) file) held.job (W.answers_of part) }
+        ensures { HeldParkGives (W.meaning N.work) held (W.answers_of part) need spent self.old self.new result }
+    {
+        match need {
+            Need::File(path) => self.park_on_file(work, held, part, path, spent),
+            Need::Job(asked) => self.park_on_job(alloc, work, held, part, asked, spent),
+        }
+    }
+
     /// Parks a claimed job on a file, or queues it at once with what was found there.
-    pub fn park_on_file(
+    fn park_on_file(
         &mut self,
         work: &W,
         held: Held<W>,
@@ -82,9 +105,9 @@ impl<W: Work, N: BoardOf<W>> Board<W, N> {
     ) -> Mem<Parked>
         requires named { work.now ≡ N.work }
         requires own { (W.meaning N.work).own held.job ≡ true }
-        requires asking { IsAsking (W.meaning N.work) held.job (W.job_of part) (W.answers_of part) held.answers (Reads path) spent }
+        requires asking { IsAsking (W.meaning N.work) held.job (W.job_of part) (W.answers_of part) held.answers (need_turn (File path)) spent }
         requires given { (file : List ℕ → Found) → N.files ≡ Some file → IsGiven (rules_of (W.meaning N.work) file) held.job (W.answers_of part) }
-        ensures { FileParkGives (is_held (W.meaning N.work).text held.job held.worker held.answers (slice_get self.old.board.slots held.place)) (found_in (slice_get self.old.board.needs (position_or_len (is_file path) self.old.board.needs))) self.old self.new (ended (Park held.worker held.place (position_or_len (is_file path) self.old.board.needs)) spent (park_file held.place (W.answers_of part) path self.old.board) self.old) result }
+        ensures { HeldParkGives (W.meaning N.work) held (W.answers_of part) (File path) spent self.old self.new result }
     {
         if !self.table.holds(work, &held) {
             return Ok(Parked::Stray);
@@ -103,6 +126,32 @@ impl<W: Work, N: BoardOf<W>> Board<W, N> {
                 Ok(Parked::Waits)
             }
         }
+    }
+
+    /// Parks a claimed job on another one, or lets it go on, or refuses it, at once.
+    fn park_on_job(
+        &mut self,
+        alloc: Global,
+        work: &W,
+        held: Held<W>,
+        part: W::Part,
+        asked: W::Job,
+        spent: u64,
+    ) -> Mem<Parked>
+        requires named { work.now ≡ N.work }
+        requires own { (W.meaning N.work).own held.job ≡ true }
+        requires asking { IsAsking (W.meaning N.work) held.job (W.job_of part) (W.answers_of part) held.answers (need_turn (Job asked)) spent }
+        requires given { (file : List ℕ → Found) → N.files ≡ Some file → IsGiven (rules_of (W.meaning N.work) file) held.job (W.answers_of part) }
+        ensures { HeldParkGives (W.meaning N.work) held (W.answers_of part) (Job asked) spent self.old self.new result }
+    {
+        if !self.table.holds(work, &held) {
+            return Ok(Parked::Stray);
+        }
+        if held.answers >= u64::MAX {
+            return Err(OutOfMemory);
+        }
+        let parked = self.table.ask(alloc, work, held, part, asked, spent)?;
+        Ok(parked)
     }
 
     /// Ends a claimed job. It is false where the job isn't held, and then nothing changes.

@@ -6,13 +6,15 @@
 //! the events in their order, and the steps spent; where the files are told, the account is the
 //! history of events that were each possible when they happened.
 //! `src/board.rt` has the calls, each one event or none; `src/table.rt` the same over plain lists,
-//! whatever the work is; `src/journal.rt` the events, with room for those that take no memory.
+//! whatever the work is, and `src/asking.rt` the cases of a job that asks another one, which
+//! `specs/Parks.antt` tells apart; `src/journal.rt` the events, with room for those that take no
+//! memory.
 //! Laws: `proofs/Keeping` (what every call keeps), and by it those of `board_machine`.
-//! Limits: a job is given fewer than 2^64 - 1 answers. Parking on a job isn't here yet. The lists
-//! are walked whole at each call.
+//! Limits: a job is given fewer than 2^64 - 1 answers. The lists are walked whole at each call.
 //! Source: Bazel, "Module extensions". To change what an event does open `board_machine`.
 #![tactic(auto)]
 
+mod asking;
 pub mod board;
 mod journal;
 mod table;

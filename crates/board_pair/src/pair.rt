@@ -5,29 +5,42 @@ ghost use Rattle.board_work.specs.Turns.{Fits, GoesOn, after, turn_of};
 ghost use Rattle.board_pair.specs.Pairs.{first_turn, pair_meaning, pair_run};
 
 use board_work::{Given, Need, TurnOf, Work};
-use bz_base::{Mem, Steps};
+use bz_base::{Code, Mem, Refusal, Steps, TreePath};
 use std::alloc::Global;
 use std::sync::ledger::Ledger;
 
+/// What the lower job comes to: its value, a refusal, the need of the upper one, or that of a file
+/// before its value.
+#[derive(Drop)]
+pub enum Lower {
+    Value,
+    Refused,
+    AsksBack,
+    Reads(TreePath),
+}
+
 /// Two jobs, the upper one `true` and the lower one `false`. A part is the job itself, as no turn
 /// goes on from an answer.
+#[derive(Drop)]
 pub struct Pair {
-    pub asks_back: bool,
+    pub lower: Lower,
 }
 
 impl Pair {
     /// The turn of a job that was given nothing.
-    fn first_turn(&self, upper: bool) -> TurnOf<bool, bool, u64>
-        ensures gives { turn_of result ≡ first_turn self.now.asks_back upper }
-        ensures goes_on { GoesOn result (λ next. next ≡ upper) }
+    fn first_turn(&self, alloc: Global, upper: bool) -> Mem<TurnOf<bool, bool, u64>>
+        ensures gives { IfOk result (λ turn. turn_of turn ≡ first_turn self.now.lower upper) }
+        ensures goes_on { IfOk result (λ turn. GoesOn turn (λ next. next ≡ upper)) }
     {
         if upper {
-            return TurnOf::Needs(upper, Need::Job(false));
+            return Ok(TurnOf::Needs(upper, Need::Job(false)));
         }
-        if self.asks_back {
-            return TurnOf::Needs(upper, Need::Job(true));
+        match &self.lower {
+            Lower::Value => Ok(TurnOf::Done(7)),
+            Lower::Refused => Ok(TurnOf::Refused(Refusal::of(alloc, Code::NoRepo))),
+            Lower::AsksBack => Ok(TurnOf::Needs(upper, Need::Job(true))),
+            Lower::Reads(path) => Ok(TurnOf::Needs(upper, Need::File(path.copy(alloc)?))),
         }
-        TurnOf::Done(7)
     }
 }
 
@@ -41,7 +54,7 @@ impl Work for Pair {
 
     type Value = u64;
 
-    ghost meaning = { λ work. pair_meaning work.asks_back };
+    ghost meaning = { λ work. pair_meaning work.lower };
 
     ghost job_of = { λ part. part };
 
@@ -61,26 +74,26 @@ impl Work for Pair {
 
     fn turn<L: Ledger>(
         &self,
-        _alloc: Global,
+        alloc: Global,
         part: bool,
         given: Option<Given<u64>>,
         steps: &mut Steps<L>,
     ) -> Mem<TurnOf<bool, bool, u64>>
-        requires own { (pair_meaning self.now.asks_back).own part ≡ true }
-        requires fits { Fits (pair_run self.now.asks_back part []) [] given }
-        ensures gives { IfOk result (λ turn. turn_of turn ≡ pair_run self.now.asks_back part (after [] given)) }
+        requires own { (pair_meaning self.now.lower).own part ≡ true }
+        requires fits { Fits (pair_run self.now.lower part []) [] given }
+        ensures gives { IfOk result (λ turn. turn_of turn ≡ pair_run self.now.lower part (after [] given)) }
         ensures goes_on { IfOk result (λ turn. GoesOn turn (λ next. (next ≡ part) × ([] ≡ after [] given))) }
         ensures ticks { IfOk result (λ turn. steps.new ≡ min (steps.old + 1) last_count) }
     {
         steps.tick();
         match &given {
             Some(Given::Value(value)) => Ok(TurnOf::Done(**value)),
-            Some(Given::File(_found)) => Ok(TurnOf::Done(0)),
-            None => Ok(self.first_turn(part)),
+            Some(Given::File(_found)) => Ok(TurnOf::Done(7)),
+            None => self.first_turn(alloc, part),
         }
     }
 
-    ghost lawful = { λ work file. pair_lawful work.asks_back file };
+    ghost lawful = { λ work file. pair_lawful work.lower file };
 
-    ghost bounded = { λ work file. pair_bounded work.asks_back file };
+    ghost bounded = { λ work file. pair_bounded work.lower file };
 }

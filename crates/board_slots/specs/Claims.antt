@@ -7,6 +7,7 @@ use Rattle.bz_base.specs.Counts.{last_count}
 use Rattle.bz_tree.specs.declared.tree.Found.{Found}
 use Rattle.board_laws.specs.Works.{Answer}
 use Rattle.board_machine.specs.Boards
+use Rattle.board_work.specs.declared.turns.Given.{Given}
 use Rattle.board_work.specs.declared.worker.Claim.{Claim}
 use Rattle.board_work.specs.declared.worker.Claim.TheVariants.{Job, Nothing, Finished}
 use Rattle.board_work.specs.declared.worker.Held.{Held}
@@ -15,10 +16,10 @@ use Rattle.board_slots.specs.Views.{queued_answers, IsPartOf}
 -- the job was queued after the answers that are handed out, and is claimed after them
 pub record IsHandedOut {W J P V : Type 0} (job_of : P → J) (answers_of : P → List (Answer Found V))
     (worker place : ℕ) (old new : Boards.Slot J Found V Refusal) (held : Held W J P V)
-    (part : Option P) (answers : List (Answer Found V)) : Type 0 where
+    (part : Option P) (given : Option (Given V)) (answers : List (Answer Found V)) : Type 0 where
   pub worker_is : held.worker ≡ worker
   pub place_is : held.place ≡ place
-  pub own : IsPartOf job_of held.job part
+  pub own : IsPartOf job_of held.job part given
   pub stood : old ≡ record { job = held.job; state = Boards.Queued answers }
   pub many : length answers ≡ held.answers
   pub claimed : new ≡ record { job = held.job; state = Boards.Claimed worker held.answers }
@@ -27,7 +28,7 @@ pub record IsHandedOut {W J P V : Type 0} (job_of : P → J) (answers_of : P →
 abbrev pub IsTaken : {W J P V : Type 0} → (P → J) → (P → List (Answer Found V)) → ℕ → ℕ
     → Boards.Slot J Found V Refusal → Boards.Slot J Found V Refusal → Claim W J P V → Type 0
 IsTaken job_of answers_of worker place old new (Job held part given) =
-    IsHandedOut job_of answers_of worker place old new held part
+    IsHandedOut job_of answers_of worker place old new held part given
     (queued_answers answers_of part given)
 IsTaken job_of answers_of worker place old new Nothing = ⊥
 IsTaken job_of answers_of worker place old new Finished = ⊥

@@ -39,10 +39,13 @@ state_of answers_of count (OnJob copy part need place) = Boards.OnJob (answers_o
 state_of answers_of count (Valued value) = Boards.Valued (arc_value value)
 state_of answers_of count (Refused refusal) = Boards.RefusedWith (arc_value refusal)
 
--- the part is the job's
-abbrev pub IsPartOf : {J P : Type 0} → (P → J) → J → Option P → Type 0
-IsPartOf job_of job None = Unit {0}
-IsPartOf job_of job (Some part) = job_of part ≡ job
+-- a job that hasn't begun has no part and is given nothing; else the part is the job's, and it is
+-- given something
+abbrev pub IsPartOf : {J P V : Type 0} → (P → J) → J → Option P → Option (Given V) → Type 0
+IsPartOf job_of job None None = Unit {0}
+IsPartOf job_of job None (Some given) = ⊥
+IsPartOf job_of job (Some part) None = ⊥
+IsPartOf job_of job (Some part) (Some given) = job_of part ≡ job
 
 -- a parked part is the job's, and has room for one more answer
 pub record IsParked {J P V : Type 0} (job_of : P → J) (answers_of : P → List (Answer Found V))
@@ -55,7 +58,7 @@ pub record IsParked {J P V : Type 0} (job_of : P → J) (answers_of : P → List
 pub record IsQueued {J P V : Type 0} (job_of : P → J) (answers_of : P → List (Answer Found V))
     (job copy : J) (count : ℕ) (part : Option P) (given : Option (Given V)) : Type 0 where
   pub copied : copy ≡ job
-  pub own : IsPartOf job_of job part
+  pub own : IsPartOf job_of job part given
   pub many : length (queued_answers answers_of part given) ≡ count
 
 -- what is kept of a job beside what contracts see: the copy, the part and the count are its own

@@ -1,6 +1,5 @@
 use Rattle.std.proofs.Common.{◌≡◌, ◌∙◌, ◌+◌, ◌≤◌, ap, sym, subst, true, length, slice_get, option_map}
 use Rattle.std.proofs.Common.{Some, None, refl}
-use Rattle.std.specs.Prelude.{IsSome}
 use Rattle.std.specs.Arc.{arc_value}
 use Rattle.std.specs.List.{position_or_len}
 use Rattle.board_machine.specs.Events
@@ -8,6 +7,7 @@ use Rattle.board_machine.specs.Moves.{is_file, park_file}
 use Rattle.board_slots.specs.Claims.{is_held}
 use Rattle.board_slots.specs.Needs.{found_in}
 use Rattle.board_core.specs.Accounts.{ended}
+use Rattle.board_core.specs.Parks.{file_parked}
 use Rattle.board_core.proofs.FileParks.{answered_is, file_parked_kept, held_within, job_there, waiting_is}
 use Rattle.board_core.proofs.board.Board.park_on_file.Goals as goal
 
@@ -138,6 +138,6 @@ returns-in_ok-go_on-in-Some g c =
     ∙ ap (λ b. ended (Events.Park held.worker held.place c.file_number-need.result) c.args.spent b account) parked
     ∙ ap (λ n. ended (Events.Park held.worker held.place n) c.args.spent (park_file held.place answers c.args.path account.board) account) need in (
       ap (λ a. is_held meaning.text held.job held.worker held.answers (slice_get a.board.slots held.place)) (sym c.self.view_is) ∙ is_so,
-      subst IsSome (found ∙ ap (λ n. found_in (slice_get needs n)) need ∙ ap (λ a. found_in (slice_get a.board.needs (position_or_len (is_file c.args.path) a.board.needs))) c.self.view_is) refl,
+      sym (ap file_parked (found ∙ ap (λ n. found_in (slice_get needs n)) need ∙ ap (λ a. found_in (slice_get a.board.needs (position_or_len (is_file c.args.path) a.board.needs))) c.self.view_is)),
       event ∙ ap (λ a. ended (Events.Park held.worker held.place (position_or_len (is_file c.args.path) a.board.needs)) c.args.spent (park_file held.place answers c.args.path a.board) a) c.self.view_is,
     )

@@ -1,0 +1,4 @@
+use Rattle.board_rows.proofs.board_tables.a_refused_second_goal_ends_nothing.Given as goal
+
+abbrev pub ghosts-plays : goal.ghosts-plays
+ghosts-plays g a = record { name = a.ledger.name; parts = a.ledger.parts }
