@@ -1,0 +1,4 @@
+pub mod Edits
+pub mod MethodNames
+pub mod Rows
+pub mod Sources

@@ -1,0 +1,4 @@
+pub mod Answers
+pub mod FunctionNames
+pub mod Rows
+pub mod Sequences

@@ -1,0 +1,13 @@
+//! Laws of sorted lists.
+ghost use Rattle.std.specs.Prelude.{IfOk, List};
+ghost use Rattle.std.specs.List.Sorted.{IsPermutation};
+ghost use Rattle.star_core.specs.Heaps.{HeapState};
+ghost use Rattle.star_core.specs.declared.dict.Pair.{Pair};
+ghost use Rattle.star_sorting.specs.Sorting.{sorted_pairs};
+ghost use Rattle.star_sorting.specs.declared.comparing.Direction.{Direction};
+
+/// A sorted list is a permutation of the pairs.
+pub fn sorting_permutes()
+    ensures { (heap : HeapState) (way : Direction) (pairs : List Pair)
+        → IfOk (sorted_pairs heap way pairs) (λ sorted. IsPermutation pairs sorted) }
+{}
