@@ -2,9 +2,7 @@
 -- left of its block.
 use Rattle.std.specs.Prelude.{ℕ, suc, ◌==◌, Bool, true, false, cond, nat_lt, if◌then◌else◌, List}
 use Rattle.std.specs.Prelude.{[], ◌∷◌, ◌++◌, length, Option, Some, None, Ok, Err, slice_get}
-use Rattle.std.specs.Prelude.{drop, option_and_then, Result}
-use Rattle.bz_text.specs.declared.memory.Miss.{Miss}
-use Rattle.bz_text.specs.declared.memory.Miss.TheVariants as miss
+use Rattle.std.specs.Prelude.{drop, option_and_then}
 use Rattle.star_code.specs.declared.code.Code.{Code}
 use Rattle.star_code.specs.declared.code.FnEntry.{FnEntry}
 use Rattle.star_code.specs.declared.code.Instr.{Instr}
@@ -14,15 +12,15 @@ use Rattle.star_core.specs.Stacks.{taken}
 use Rattle.star_core.specs.declared.cells.Cell.TheVariants as cell
 use Rattle.star_core.specs.declared.faults.Fault.{Fault}
 use Rattle.star_core.specs.declared.faults.Fault.TheVariants as fault
+use Rattle.star_core.specs.declared.values.Args.{Args}
 use Rattle.star_core.specs.declared.values.Val.{Val}
 use Rattle.star_core.specs.declared.values.Val.TheVariants as val
 use Rattle.star_machine.specs.Configs.{Behind, Caller, Config, Doing, Leaves, Onward, Runs, Turns}
 use Rattle.star_machine.specs.Configs.{block_of}
-use Rattle.star_machine.specs.declared.machine.Next.{Next}
 use Rattle.star_machine.specs.Outcomes.{Breaks, Ends, Goes, Step}
 use Rattle.star_meaning.specs.Attributes.{Callee, Defined, Nothing, OfHost, OfLibrary}
 use Rattle.star_meaning.specs.Attributes.{attribute_of, callee_of}
-use Rattle.star_meaning.specs.Calls.{given_by, is_running, running_of}
+use Rattle.star_meaning.specs.Calls.{by_position, given_by, is_running, running_of}
 use Rattle.star_meaning.specs.Expressions.{closure, entry_displayed, same_bool}
 use Rattle.star_meaning.specs.Libraries.{Rows}
 use Rattle.star_meaning.specs.Statements.{augmented}
@@ -340,27 +338,31 @@ abbrev pub entered_of : List Code
 entered_of codes f None values below config = faults fault.Kind config
 entered_of codes f (Some entry) values below config = entered_if codes f entry values below config
 
--- why a call of what no file defines is refused
-abbrev pub not_defined : Callee → Result Next (Miss Reason)
-not_defined (Defined f) = Err (miss.Because (reason.Fault fault.Kind))
-not_defined (OfHost object method) = Err (miss.Because (reason.Fault fault.Kind))
-not_defined OfLibrary = Err (miss.Because reason.Unbuilt)
-not_defined Nothing = Err (miss.Because (reason.Fault fault.Kind))
+abbrev pub library_if : Bool → Step → Config → Step
+library_if true plain config = breaks reason.Unbuilt config
+library_if false plain config = plain
+
+-- a call of the library that neither calls back nor asks the host
+abbrev pub library_called : Rows → Val → Args → List Val → Config → Step
+library_called library f args below config =
+    library_if (library.calls_back f args config.world.heap)
+    (after (on_heap (library.call f args) config.world) (pushed config below)) config
 
 -- a call of what no host answers for
-abbrev pub called : List Code → Callee → List Val → List Val → Config → Step
-called codes (Defined f) values below config =
+abbrev pub called : Rows → List Code → Val → Callee → List Val → List Val → Config → Step
+called library codes of (Defined f) values below config =
     entered_of codes f (function_entry codes f.file f.function) values below config
-called codes (OfHost object method) values below config = faults fault.Kind config
-called codes OfLibrary values below config = breaks reason.Unbuilt config
-called codes Nothing values below config = faults fault.Kind config
+called library codes of (OfHost object method) values below config = faults fault.Kind config
+called library codes of OfLibrary values below config =
+    library_called library of (by_position values) below config
+called library codes of Nothing values below config = faults fault.Kind config
 
 -- a call of the value below so many arguments
-abbrev pub called_below : List Code → ℕ → Config → Step
-called_below codes count config =
+abbrev pub called_below : Rows → List Code → ℕ → Config → Step
+called_below library codes count config =
     on_many config (taken count [] config.stack) (λ values below.
     on_one config below (λ f rest.
-    called codes (callee_of config.world.heap f) values rest config))
+    called library codes f (callee_of config.world.heap f) values rest config))
 
 -- a block ended
 abbrev pub block_ended : List Onward → Config → Step
@@ -437,7 +439,7 @@ perform library codes (instr.Attr index) config =
     attribute_named (name_of codes config.file index) config
 perform library codes instr.Index config = indexed library config
 perform library codes instr.Slice config = sliced library config
-perform library codes (instr.Call count) config = called_below codes count config
+perform library codes (instr.Call count) config = called_below library codes count config
 perform library codes instr.SetIndex config = index_put library config
 perform library codes (instr.Unpack count) config = unpacked_on count config
 perform library codes (instr.For body) config = looped codes body config

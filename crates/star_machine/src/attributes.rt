@@ -155,7 +155,7 @@ pub fn attribute(heap: &Heap, val: &Val, name: &str) -> Attribute
 
 /// A name of a file's code.
 #[tactic(auto, unfolding(crate::specs::Steps::name_of))]
-fn name_of(codes: &[Code], file: usize, index: usize) -> Option<&Txt>
+pub fn name_of(codes: &[Code], file: usize, index: usize) -> Option<&Txt>
     ensures { option_copied result ≡ steps.name_of codes.now file index }
 {
     codes.get(file)?.names.as_slice().get(index)

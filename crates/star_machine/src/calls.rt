@@ -5,14 +5,14 @@ ghost use Rattle.star_machine.specs.Outcomes.{Acted};
 ghost use Rattle.star_machine.specs.Steps as steps;
 ghost use Rattle.star_meaning.specs.Attributes as attributes;
 ghost use Rattle.std.specs.List.{list_any};
-ghost use Rattle.star_meaning.specs.Calls.{given_by, is_running, is_same};
+ghost use Rattle.star_meaning.specs.Calls.{by_position, given_by, is_running, is_same};
 
 use crate::machine::{Later, Machine, Next, Task, Turns, fault, of_fault};
 use bz_text::{May, Mem, Miss, Seq};
 use sqlite_items::Items;
 use star_code::{Code, FnEntry};
-use star_core::{Cell, Fault, Function, Heap, Stack, Val};
-use star_meaning::{Closure, Exit, MOST_CALLS, Reason, Running};
+use star_core::{Args, Cell, Fault, Function, Heap, Stack, Val};
+use star_meaning::{Closure, Exit, Library, MOST_CALLS, Reason, Running};
 use std::alloc::Global;
 use std::mem;
 
@@ -124,10 +124,15 @@ impl Machine {
     }
 
     /// Calls the value below so many arguments, for which no host answers.
-    pub fn call(&mut self, codes: &[Code], count: usize) -> May<Next, Reason>
+    pub fn call<L: Library>(
+        &mut self,
+        codes: &[Code],
+        library: &L,
+        count: usize,
+    ) -> May<Next, Reason>
         requires { self.old.leaving ≡ None }
-        ensures { Acted (steps.called_below codes.now count (config_of codes.now self.old)) result
-            (config_of codes.now self.new) }
+        ensures { Acted (steps.called_below L.rows codes.now count (config_of codes.now self.old))
+            result (config_of codes.now self.new) }
     {
         let Some(values) = self.task.stack.take_top(count)? else {
             return fault(Fault::Kind);
@@ -137,18 +142,35 @@ impl Machine {
         };
         match closure_called(&self.heap, &f) {
             Some(closure) => self.call_closure(codes, closure, values.as_slice()),
-            None => self.not_defined(codes, f),
+            None if calls_library(&self.heap, &f) => {
+                self.call_library(codes, library, f, Seq::of_vec(values))
+            }
+            None => fault(Fault::Kind),
         }
     }
 
-    /// A call of what no file defines.
-    fn not_defined(&self, codes: &[Code], f: Val) -> May<Next, Reason>
-        ensures { result ≡ steps.not_defined (attributes.callee_of self.now.heap f) }
+    /// A call of the library that neither calls back nor asks the host.
+    fn call_library<L: Library>(
+        &mut self,
+        codes: &[Code],
+        library: &L,
+        f: Val,
+        values: Seq<Val>,
+    ) -> May<Next, Reason>
+        ensures { Acted (steps.library_called L.rows f (by_position values)
+            self.old.task.stack (config_of codes.now self.old)) result
+            (config_of codes.now self.new) }
     {
-        if calls_library(&self.heap, &f) {
+        let args = Args {
+            positional: values,
+            named: Seq::new(self.alloc),
+        };
+        if library.calls_back(&self.heap, &f, &args) {
             return Err(Miss::Because(Reason::Unbuilt));
         }
-        fault(Fault::Kind)
+        let value = of_fault(library.call(&mut self.heap, &f, &args))?;
+        self.task.stack.push(value)?;
+        Ok(Next::On)
     }
 
     fn call_closure(&mut self, codes: &[Code], f: Closure, values: &[Val]) -> May<Next, Reason>

@@ -15,4 +15,5 @@ pub mod operators;
 pub mod perform;
 pub mod statements;
 
+pub use attributes::name_of;
 pub use machine::{Later, Machine, Next, Task, Turns};

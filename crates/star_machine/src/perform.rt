@@ -43,7 +43,7 @@ impl Machine {
             Instr::Attr(index) => self.attribute(codes, index),
             Instr::Index => self.index(codes, library),
             Instr::Slice => self.slice(codes, library),
-            Instr::Call(count) => self.call(codes, count),
+            Instr::Call(count) => self.call(codes, library, count),
             Instr::SetIndex => self.set_index(codes, library),
             Instr::Unpack(count) => self.unpack(codes, count),
             Instr::For(body) => self.walk(codes, body),

@@ -1,20 +1,22 @@
 -- What calls of functions and runs of files mean: the Starlark specification, "Functions" and
 -- "Module execution". At most 64 calls run at once, and no function is called while a call of it
 -- runs.
-use Rattle.std.specs.Prelude.{ℕ, zero, suc, ◌==◌, ◌&&◌, Bool, List, [], ◌∷◌, length, Option, Some}
+use Rattle.std.specs.Prelude.{ℕ, zero, suc, ◌==◌, ◌&&◌, Bool, true, false, List, [], ◌∷◌, length, Option, Some}
 use Rattle.std.specs.Prelude.{None, slice_get, if◌then◌else◌}
 use Rattle.std.specs.List.{list_any}
 use Rattle.star_core.specs.Hosts.{HostCall, Meaning, Method}
 use Rattle.star_core.specs.Tables.{Table}
 use Rattle.star_core.specs.declared.faults.Fault.TheVariants as fault
+use Rattle.star_core.specs.declared.values.Args.{Args}
 use Rattle.star_core.specs.declared.values.Val.{Val}
 use Rattle.star_core.specs.declared.values.Val.TheVariants as val
 use Rattle.star_meaning.specs.Attributes.{Callee, Defined, Nothing, OfHost, OfLibrary, callee_of}
 use Rattle.star_meaning.specs.Expressions.{Program, Setting, meaning}
 use Rattle.star_meaning.specs.Libraries.{Rows}
-use Rattle.star_meaning.specs.Results.{Done, Gives, M, Outcome, Res, Stops, asked, fail, refuse}
+use Rattle.star_meaning.specs.Results.{Done, Gives, M, Outcome, Res, Stops, asked, fail, lift}
+use Rattle.star_meaning.specs.Results.{refuse}
 use Rattle.star_meaning.specs.Statements.{Flow, Left, Next, body_meaning}
-use Rattle.star_meaning.specs.Worlds.{World, opened}
+use Rattle.star_meaning.specs.Worlds.{World, on_heap, opened}
 use Rattle.star_meaning.specs.declared.reasons.Closure.{Closure}
 use Rattle.star_meaning.specs.declared.reasons.Exit.{Exit}
 use Rattle.star_meaning.specs.declared.reasons.Exit.TheVariants as exit
@@ -108,6 +110,20 @@ call_in run running f None values = fail fault.Kind
 call_in run running f (Some program) values =
     call_code run running f program (slice_get program.tree.functions f.function) values
 
+-- arguments by position
+abbrev pub by_position : List Val → Args
+by_position values = record { positional = values; named = [] }
+
+abbrev pub library_if : {H : Type 0} → Bool → M H Val → M H Val
+library_if true plain = refuse reason.Unbuilt
+library_if false plain = plain
+
+-- a call of the library that neither calls back nor asks the host
+abbrev pub library_call : {H : Type 0} → Rows → Val → Args → M H Val
+library_call library f args =
+    λ world host.
+    library_if (library.calls_back f args world.heap) (lift (on_heap (library.call f args))) world host
+
 -- a call of what was found, with values by position
 abbrev pub call_callee : {H : Type 0}
     → Meaning H HostCall
@@ -116,15 +132,17 @@ abbrev pub call_callee : {H : Type 0}
     → List Program
     → Run H
     → List Running
+    → Val
     → Callee
     → List Val
     → M H Val
-call_callee does answers library programs run running (Defined f) values =
+call_callee does answers library programs run running of (Defined f) values =
     call_in run running f (slice_get programs f.file) values
-call_callee does answers library programs run running (OfHost object method) values =
-    asked does answers (Method object method (record { positional = values; named = [] }))
-call_callee does answers library programs run running OfLibrary values = refuse reason.Unbuilt
-call_callee does answers library programs run running Nothing values = fail fault.Kind
+call_callee does answers library programs run running of (OfHost object method) values =
+    asked does answers (Method object method (by_position values))
+call_callee does answers library programs run running of OfLibrary values =
+    library_call library of (by_position values)
+call_callee does answers library programs run running of Nothing values = fail fault.Kind
 
 abbrev pub call_value : {H : Type 0}
     → Meaning H HostCall
@@ -138,7 +156,7 @@ abbrev pub call_value : {H : Type 0}
     → M H Val
 call_value does answers library programs run running f values =
     λ world host.
-    call_callee does answers library programs run running (callee_of world.heap f) values world host
+    call_callee does answers library programs run running f (callee_of world.heap f) values world host
 
 -- a call of a value where so many calls more may run besides those that are running
 unfoldable pub calls : {H : Type 0}

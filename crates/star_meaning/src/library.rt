@@ -1,11 +1,12 @@
 //! The library that an evaluation computes with.
+ghost use Rattle.std.specs.Prelude.{◌≡◌};
 ghost use Rattle.star_library.specs.Calls.{Builds};
 ghost use Rattle.star_meaning.specs.Libraries.{Rows};
 
 use bz_text::May;
-use star_core::{BinOp, Fault, Heap, UnOp, Val};
+use star_core::{Args, BinOp, Fault, Heap, UnOp, Val};
 
-/// The operators of the language. `rows` is what they do.
+/// The operators of the language and the calls of its library. `rows` is what they do.
 pub trait Library {
     ghost rows: { Rows };
 
@@ -34,4 +35,12 @@ pub trait Library {
     /// Puts the entries of a dictionary into another.
     fn merge(&self, heap: &mut Heap, dict: &Val, by: &Val) -> May<(), Fault>
         ensures { Builds (rows.merge dict.now by.now heap.old) result heap.new };
+
+    /// A call of a function of the library, or of a method of a value.
+    fn call(&self, heap: &mut Heap, f: &Val, args: &Args) -> May<Val, Fault>
+        ensures { Builds (rows.call f.now args.now heap.old) result heap.new };
+
+    /// Whether such a call calls back or asks the host.
+    fn calls_back(&self, heap: &Heap, f: &Val, args: &Args) -> bool
+        ensures { result ≡ rows.calls_back f.now args.now heap.now };
 }

@@ -1,7 +1,7 @@
 -- Calls do what they mean, however many more may run; and so does a file.
 use Rattle.std.proofs.Common.{◌≡◌, ◌∙◌, ap, refl, sym, subst, arith, ℕ, zero, suc, ◌+◌, ◌==◌, Bool, true}
 use Rattle.std.proofs.Common.{false, nat_lt, if◌then◌else◌, List, [], ◌∷◌, length, map, Option, Some}
-use Rattle.std.proofs.Common.{None, slice_get}
+use Rattle.std.proofs.Common.{None, slice_get, reverse, ◌++◌}
 use Rattle.std.proofs.lemmas.Bool.{lt-leb, lt-ltb}
 use Rattle.star_code.specs.Codes.{BodyCode, BothCoded, FileCoded, FilesCoded, FnCoded, PairCoded}
 use Rattle.star_code.specs.Codes.{Tables, tables_of}
@@ -17,28 +17,30 @@ use Rattle.star_core.specs.declared.values.Val.{Val}
 use Rattle.star_core.specs.declared.values.Val.TheVariants as val
 use Rattle.star_machine.specs.Configs.{Caller, Config, Onward, block_of, or_nothing}
 use Rattle.star_machine.specs.Steps.{called, entered, entered_if, entered_of, faults, function_entry}
-use Rattle.star_machine.specs.Steps.{on_many, perform, returned, waiting}
+use Rattle.star_machine.specs.Steps.{after, library_if, on_many, perform, pushed, returned, waiting}
 use Rattle.star_meaning.specs.Attributes.{Callee, Defined, Nothing, OfHost, OfLibrary, callee_of}
-use Rattle.star_meaning.specs.Calls.{Run as BodyRun, back, body_value, call_bound, call_callee}
-use Rattle.star_meaning.specs.Calls.{call_code, call_in, call_value, calls, ended, file_meaning}
+use Rattle.star_meaning.specs.Calls.{Run as BodyRun, back, body_value, by_position, call_bound}
+use Rattle.star_meaning.specs.Calls.{call_callee, library_call, library_if as meant_if}
+use Rattle.star_meaning.specs.Calls.{call_code, call_in, call_meaning, call_value, calls, ended, file_meaning}
 use Rattle.star_meaning.specs.Calls.{flow_value, given_by, is_running, run_body, running_of, setting}
 use Rattle.star_meaning.specs.Calls.{value_of}
 use Rattle.star_meaning.specs.Expressions.{Program, Setting}
 use Rattle.star_meaning.specs.Libraries.{Rows}
-use Rattle.star_meaning.specs.Results.{Done, Gives, M, Outcome, Res, Stops, fail, refuse}
+use Rattle.star_meaning.specs.Results.{Done, Gives, M, Outcome, Res, Stops, fail, lift, refuse}
 use Rattle.star_meaning.specs.Statements.{Flow, body_meaning}
-use Rattle.star_meaning.specs.Worlds.{World, opened}
+use Rattle.star_meaning.specs.Worlds.{Work, World, on_heap, opened}
 use Rattle.star_meaning.specs.declared.reasons.Closure.{Closure}
 use Rattle.star_meaning.specs.declared.reasons.Exit.{Exit}
 use Rattle.star_meaning.specs.declared.reasons.Exit.TheVariants as exit
 use Rattle.star_meaning.specs.declared.reasons.Reason.TheVariants as reason
 use Rattle.star_meaning.specs.declared.reasons.Running.{Running}
 use Rattle.star_meaning.specs.declared.reasons.TheConstants.{MOST_CALLS}
-use Rattle.star_runs.proofs.Combine.{Leads, Run, conf, finish, leaves, step}
+use Rattle.star_runs.proofs.Combine.{Leads, Run, conf, finish, last_leads, leaves, step}
 use Rattle.star_runs.proofs.ExprRuns.{CallServes, expr_serves, reply_leads}
-use Rattle.star_runs.proofs.Instructions.{return_step}
+use Rattle.star_runs.proofs.Instructions.{call_step, return_step}
+use Rattle.star_runs.proofs.Tops.{taken_top}
 use Rattle.star_runs.proofs.StmtRuns.{stmts_serve}
-use Rattle.star_runs.specs.Runs.{call_wanted, instructed, method_wanted, went}
+use Rattle.star_runs.specs.Runs.{call_begun, call_wanted, instructed, method_wanted, went}
 use Rattle.star_trees.specs.declared.files.FnBody.{FnBody}
 use Rattle.star_trees.specs.declared.files.FnCode.{FnCode}
 
@@ -70,9 +72,22 @@ module _ {H : Type 0} (does : Meaning H HostCall) (library : Rows) (codes : List
   performed : (count : ℕ) (values below : List Val) (f : Val) (callee : Callee) (config : Config)
       → taken count [] config.stack ≡ Some (values, f ∷ below)
       → callee_of config.world.heap f ≡ callee
-      → perform library codes (instr.Call count) config ≡ called codes callee values below config
+      → perform library codes (instr.Call count) config
+      ≡ called library codes f callee values below config
   unfolding perform
   performed count values below f callee config there is = rw (there, is) refl
+
+  library_leads : (calls_back : Bool) (work : World → Work Val) (config : Config)
+      (below : List Val) (host : H) (K : Val → World → H → Outcome H)
+      → ((value : Val) (world : World)
+      → Leads does library codes answers (went (pushed config below value world) host)
+      (K value world host))
+      → Leads does library codes answers
+      (went (library_if calls_back (after (work config.world) (pushed config below)) config) host)
+      (finish (meant_if calls_back (lift work) config.world host) K)
+  library_leads true work config below host K next = refl
+  library_leads false work config below host K next =
+      last_leads does library codes answers (work config.world) (pushed config below) host K next
 
   flow_runs : (r : Res H Flow) (K : Val → World → H → Outcome H) (config : Config) (host : H)
       → RunTo config host (finish r (λ flow w h. K (value_of flow) w h))
@@ -260,7 +275,7 @@ module _ {H : Type 0} (does : Meaning H HostCall) (library : Rows) (codes : List
           → Leads does library codes answers (instructed does library codes answers
           (method_wanted callee values below) (instr.Call count)
           (conf file running rest stack onward callers world) host)
-          (finish (call_callee does answers library programs run running callee values world host) K)
+          (finish (call_callee does answers library programs run running f callee values world host) K)
       callee_leads programs coded (OfHost object method) count f values below stack rest onward callers world
           host K there is next =
           reply_leads does library codes answers file running
@@ -277,9 +292,13 @@ module _ {H : Type 0} (does : Meaning H HostCall) (library : Rows) (codes : List
       callee_leads programs coded OfLibrary count f values below stack rest onward callers world host K there
           is next =
           subst (λ to. Leads does library codes answers (went to host)
-          (finish (refuse {A = Val} reason.Unbuilt world host) K))
+          (finish (library_call library f (by_position values) world host) K))
           (sym (performed count values below f _ (conf file running rest stack onward callers world) there
-          is)) refl
+          is))
+          (library_leads (library.calls_back f (by_position values) world.heap)
+          (on_heap (library.call f (by_position values)))
+          (conf file running rest stack onward callers world) below host K
+          (λ v w. next v w host))
       callee_leads programs coded Nothing count f values below stack rest onward callers world host K there
           is next =
           subst (λ to. Leads does library codes answers (went to host)
@@ -403,3 +422,19 @@ module _ {H : Type 0} (does : Meaning H HostCall) (library : Rows) (codes : List
             (step does library codes answers _ h _ refl);
         left = λ out w h. step does library codes answers _ h _ refl;
       }))))
+
+  -- a machine before a call from outside comes to what the call means
+  pub call_runs : (programs : List Program)
+      → FilesCoded programs codes
+      → (number : ℕ) (f : Val) (values : List Val) (world : World) (host : H)
+      → RunTo (call_begun number f values world) host
+      (call_meaning does answers library programs f values world host)
+  call_runs programs coded number f values world host =
+      ended_runs (calls does answers library programs MOST_CALLS [] f values world host) _ host
+      (call_step does library codes answers number [] (instr.Return ∷ [])
+      (reverse values ++ (f ∷ [])) [] [] world host _ (length values)
+      ((calls_serve programs coded MOST_CALLS number [] refl).serves f values []
+      (reverse values ++ (f ∷ [])) (length values) (instr.Return ∷ []) [] [] world host Done
+      (taken_top (length values) values (f ∷ []) refl)
+      (λ v w h. return_step does library codes answers number [] [] (v ∷ []) [] [] w h _
+      (step does library codes answers _ h _ refl))))

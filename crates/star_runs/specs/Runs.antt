@@ -1,6 +1,6 @@
 -- Whole runs of a machine: one step with a host, what a machine comes to, and what a turn answers.
 use Rattle.std.specs.Prelude.{◌≡◌, ℕ, Bool, true, false, List, [], ◌∷◌, Option, Some, None}
-use Rattle.std.specs.Prelude.{Result, Ok, Err, ⊤}
+use Rattle.std.specs.Prelude.{Result, Ok, Err, ⊤, length, reverse, ◌++◌}
 use Rattle.bz_text.specs.declared.memory.Miss.{Miss}
 use Rattle.bz_text.specs.declared.memory.Miss.TheVariants as miss
 use Rattle.star_code.specs.declared.code.Code.{Code}
@@ -15,6 +15,7 @@ use Rattle.star_machine.specs.Outcomes.{Breaks, Ends, Goes, Step}
 use Rattle.star_machine.specs.Steps.{block_ended, left, name_of, perform}
 use Rattle.star_meaning.specs.Attributes.{Callee, Defined, Nothing, OfHost, OfLibrary}
 use Rattle.star_meaning.specs.Attributes.{attribute_of, callee_of}
+use Rattle.star_meaning.specs.Calls.{by_position}
 use Rattle.star_meaning.specs.Libraries.{Rows}
 use Rattle.star_meaning.specs.Results.{Done, Outcome, Refused, RefusedByHost, Unanswered}
 use Rattle.star_meaning.specs.Worlds.{World}
@@ -64,7 +65,7 @@ attribute_wanted (Some name) config = top_attribute config.stack name config
 abbrev pub method_wanted : Callee → List Val → List Val → Wanted
 method_wanted (Defined f) values below = None
 method_wanted (OfHost object method) values below =
-    Some (Method object method (record { positional = values; named = [] }), below)
+    Some (Method object method (by_position values), below)
 method_wanted OfLibrary values below = None
 method_wanted Nothing values below = None
 
@@ -119,6 +120,19 @@ file_begun codes number code world =
       file = number;
       doing = Runs (block_of codes number code.top);
       stack = [];
+      onward = [];
+      callers = [];
+      running = [];
+      world = world;
+    }
+
+-- where a machine stands before a call of a value from outside
+abbrev pub call_begun : ℕ → Val → List Val → World → Config
+call_begun number f values world =
+    record {
+      file = number;
+      doing = Runs (instr.Call (length values) ∷ instr.Return ∷ []);
+      stack = reverse values ++ (f ∷ []);
       onward = [];
       callers = [];
       running = [];

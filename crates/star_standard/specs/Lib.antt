@@ -1,1 +1,2 @@
+pub mod LibraryCalls
 pub mod Standards

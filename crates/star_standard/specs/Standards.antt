@@ -1,4 +1,5 @@
--- The operators of the language, as a table. The Starlark specification, "Expressions".
+-- The operators of the language and the calls of its library, as a table. The Starlark
+-- specification, "Expressions" and "Built-in constants and functions".
 use Rattle.std.specs.Prelude.{ℕ, Bool, true, false, if◌then◌else◌, List, Option, Some, None}
 use Rattle.star_containers.specs.Changing.{extended, index_set, merged}
 use Rattle.star_containers.specs.Slicing.{slice_of}
@@ -10,6 +11,7 @@ use Rattle.star_meaning.specs.Libraries.{Rows}
 use Rattle.star_operators.specs.Binary.{binary_of}
 use Rattle.star_operators.specs.Indexing.{index_of}
 use Rattle.star_operators.specs.Unary.{unary_of}
+use Rattle.star_standard.specs.LibraryCalls.{call_row, calls_back_of}
 use Rattle.star_trees.specs.declared.trees.BinOp.{BinOp}
 use Rattle.star_trees.specs.declared.trees.BinOp.TheVariants as op
 
@@ -34,4 +36,6 @@ standard_rows =
       set_index = index_set;
       extend = extended;
       merge = merged;
+      call = call_row;
+      calls_back = calls_back_of;
     }

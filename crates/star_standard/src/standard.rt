@@ -3,15 +3,16 @@ ghost use Rattle.std.specs.Prelude.{◌≡◌, option_copied};
 ghost use Rattle.star_library.specs.Calls.{Builds};
 ghost use Rattle.star_standard.specs.Standards as spec;
 
+use crate::calls::{calls_back, library_call};
 use bz_text::May;
 use star_containers::{extend, merge, set_index, slice};
-use star_core::{BinOp, Fault, Heap, UnOp, Val};
+use star_core::{Args, BinOp, Fault, Heap, UnOp, Val};
 use star_format::percent;
 use star_library::text_of;
 use star_meaning::Library;
 use star_operators::{binary, index, unary};
 
-/// Starlark's operators.
+/// Starlark's operators, functions and methods.
 #[derive(Clone, Copy, Debug)]
 pub struct Standard;
 
@@ -46,6 +47,14 @@ impl Library for Standard {
 
     fn merge(&self, heap: &mut Heap, dict: &Val, by: &Val) -> May<(), Fault> {
         merge(heap, dict, by)
+    }
+
+    fn call(&self, heap: &mut Heap, f: &Val, args: &Args) -> May<Val, Fault> {
+        library_call(heap, f, args)
+    }
+
+    fn calls_back(&self, heap: &Heap, f: &Val, args: &Args) -> bool {
+        calls_back(heap, f, args)
     }
 }
 
