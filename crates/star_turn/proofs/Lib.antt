@@ -1,0 +1,4 @@
+pub mod Depths
+pub mod Following
+pub mod Running
+pub mod Wanting
