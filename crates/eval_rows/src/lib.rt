@@ -2,11 +2,12 @@
 //! host whose methods count and ask, and what comes of it is one text.
 //!
 //! `trials.rt` runs a text; `rows.rt` has rows on hosts, steps and refusals, and `tables.rt` the
-//! library's calls, an expression a line.
+//! library's calls, an expression a line. It holds tests alone.
 #![tactic(auto)]
 
 #[cfg(test)]
 mod rows;
 #[cfg(test)]
 mod tables;
-pub mod trials;
+#[cfg(test)]
+mod trials;
