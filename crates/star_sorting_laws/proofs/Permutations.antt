@@ -1,6 +1,6 @@
 -- A sorted list is a permutation: merging permutes, and so does each layer of halves.
-use Rattle.std.proofs.Common.{◌≡◌, ℕ, zero, suc, ◌/◌, Bool, true, false, nat_lt, if◌then◌else◌}
-use Rattle.std.proofs.Common.{List, [], ◌∷◌, ◌++◌, append_assoc, ap, length, drop, take, subst, sym}
+use Rattle.std.proofs.Common.{ℕ, zero, suc, ◌/◌, Bool, true, false, nat_lt, if◌then◌else◌}
+use Rattle.std.proofs.Common.{List, [], ◌∷◌, ◌++◌, append_assoc, length, drop, take, subst, sym}
 use Rattle.std.proofs.Common.{◌∙◌, IfOk, Result, Ok, Err}
 use Rattle.std.specs.List.Sorted.{IsPermutation}
 use Rattle.std.proofs.lemmas.List.{take-append-drop}
@@ -11,7 +11,7 @@ use Rattle.star_calls.specs.Values.{result_then}
 use Rattle.star_core.specs.declared.dict.Pair.{Pair}
 use Rattle.star_core.specs.declared.faults.Fault.{Fault}
 use Rattle.star_sorting.specs.Sorting.{Test, count_before, halves_sorted, in_front, merged}
-use Rattle.star_sorting.specs.Sorting.{sorted_by, sorted_within}
+use Rattle.star_sorting.specs.Sorting.{sorted_within}
 
 -- the pairs of a result are these, in some order
 abbrev pub Permutes : List Pair → Result (List Pair) Fault → Type 0
