@@ -1,2 +1,4 @@
 pub mod Chains
+pub mod KeyEquality
+pub mod Told
 pub mod ValueOrders

@@ -1,1 +1,2 @@
+pub mod KeyContents
 pub mod Orders
