@@ -1,3 +1,4 @@
 pub mod Merging
 pub mod Permutations
 pub mod Tests
+pub mod ValuesSorted

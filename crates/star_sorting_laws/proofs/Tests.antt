@@ -113,7 +113,7 @@ module _ (heap : HeapState) (way : Direction) where
   is_order : IsOrder (order heap)
   is_order = within_is_order deepest heap
 
-  is_ordering : IsOrdering (comes_before heap way)
+  pub is_ordering : IsOrdering (comes_before heap way)
   unfolding comes_before
   is_ordering = record {
     asymmetric = λ one other comes. first_turned way (order heap one.key other.key)
@@ -127,14 +127,14 @@ module _ (heap : HeapState) (way : Direction) where
         (is_order.goes_on one.key middle.key other.key) first second;
   }
 
-  is_alike : (key : Val) → IsAlike (comes_before heap way) (λ pair. is_tie (order heap key pair.key))
+  pub is_alike : (key : Val) → IsAlike (comes_before heap way) (λ pair. is_tie (order heap key pair.key))
   unfolding comes_before
   is_alike key one other is other_is =
       tied_both way (order heap key one.key) (order heap one.key key) (order heap key other.key)
       (order heap one.key other.key) (is_order.turns key one.key)
       (is_order.goes_on one.key key other.key) is other_is
 
-  kept_later : (one later : Pair)
+  pub kept_later : (one later : Pair)
       → comes_before heap way later one ≡ Ok false
       → IsKept way (order heap one.key later.key)
   unfolding comes_before
@@ -151,7 +151,7 @@ module _ (heap : HeapState) (way : Direction) where
       (λ k d within. kept_later one (slice_index_or more k d) (is.0 k d within))
       (in_order_pairs more is.1)
 
-  pairs_sort : (same : Pair → Bool) (pairs : List Pair)
+  pub pairs_sort : (same : Pair → Bool) (pairs : List Pair)
       (alike : IsAlike (comes_before heap way) same)
       → length pairs < 2 ^ 64
       → Sorts (comes_before heap way) is_ordering same alike pairs (sorted_pairs heap way pairs)
@@ -172,7 +172,7 @@ stable_of : (heap : HeapState) (way : Direction) (same : Pair → Bool) (pairs :
 stable_of heap way same pairs alike (Ok all) is = is.1
 stable_of heap way same pairs alike (Err reason) is = tt
 
-none_alike : (heap : HeapState) (way : Direction)
+pub none_alike : (heap : HeapState) (way : Direction)
     → IsAlike (comes_before heap way) (λ pair. false)
 none_alike heap way one other is other_is = absurd (cc)
 

@@ -9,7 +9,7 @@ use Rattle.star_core.specs.declared.dict.Pair.{Pair}
 use Rattle.star_core.specs.declared.faults.Fault.{Fault}
 use Rattle.star_core.specs.declared.values.Val.{Val}
 use Rattle.star_order.specs.Order.{order}
-use Rattle.star_sorting.specs.Sorting.{sorted_pairs}
+use Rattle.star_sorting.specs.Sorting.{sorted_pairs, sorted_values}
 use Rattle.star_sorting.specs.declared.comparing.Direction.{Direction}
 use Rattle.star_sorting.specs.declared.comparing.Direction.TheVariants as direction
 
@@ -50,3 +50,21 @@ abbrev pub SortsStably : Type 0
 SortsStably = (heap : HeapState) (way : Direction) (pairs : List Pair) (key : Val)
     → length pairs < 2 ^ 64
     → IfOk (sorted_pairs heap way pairs) (λ sorted. tied heap key sorted ≡ tied heap key pairs)
+
+-- values that were sorted are in order
+abbrev pub SortsValuesInOrder : Type 0
+SortsValuesInOrder = (heap : HeapState) (way : Direction) (values : List Val)
+    → length values < 2 ^ 64
+    → IfOk (sorted_values heap way values)
+    (λ sorted. AllPairs (λ one later. IsKept way (order heap one later)) sorted)
+
+-- the values that are neither less nor greater than one, in the order in which they stand
+abbrev pub tied_values : HeapState → Val → List Val → List Val
+tied_values heap one values = filter (λ value. is_tie (order heap one value)) values
+
+-- values that are neither less nor greater keep their order
+abbrev pub SortsValuesStably : Type 0
+SortsValuesStably = (heap : HeapState) (way : Direction) (values : List Val) (one : Val)
+    → length values < 2 ^ 64
+    → IfOk (sorted_values heap way values)
+    (λ sorted. tied_values heap one sorted ≡ tied_values heap one values)
