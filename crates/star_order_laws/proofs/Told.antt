@@ -1,6 +1,7 @@
 -- Texts that say where they end: two of them are one, or differ whatever stands behind them.
 use Rattle.std.proofs.Common.{◌≡◌, ◌∙◌, ◌≢◌, ℕ, suc, ◌+◌, ◌%◌, ◌^◌, ◌<◌, ap, arith, refl, subst}
-use Rattle.std.proofs.Common.{Bool, true, false, ◌&&◌, List, [], ◌∷◌, ◌++◌, append_assoc, length, sym}
+use Rattle.std.proofs.Common.{Bool, true, false, ◌&&◌, List, [], ◌∷◌, ◌++◌, append_assoc, length}
+use Rattle.std.proofs.Common.{sym}
 use Rattle.std.proofs.Common.{ℤ, pos, negsuc, Decides, Result, Ok, Err, bytes_eq, codes, decimal}
 use Rattle.std.proofs.lemmas.Fmt.{decimal_by_steps, decimal_injective, signed_decimal_injective}
 use Rattle.std.proofs.lemmas.List.{append_cancel_left}
@@ -163,7 +164,8 @@ same_front (byte ∷ bytes) [] rest other_rest lengths is = absurd (omega (arith
 same_front (byte ∷ bytes) (first ∷ others) rest other_rest lengths is =
     let head : byte ≡ first = cc in
     let tail : bytes ++ rest ≡ others ++ other_rest = cc in
-    let more : bytes ≡ others = same_front bytes others rest other_rest (omega (arith, lengths)) tail in
+    let more : bytes ≡ others =
+    same_front bytes others rest other_rest (omega (arith, lengths)) tail in
     ap (λ one. one ∷ bytes) head ∙ ap (λ all. first ∷ all) more
 
 measured_regrouped : (digits mark text rest : List ℕ)

@@ -39,7 +39,8 @@ module _ (inside : Inside Ordering) (is : IsOrderInside inside) where
   text_turned : (text : List ℕ) (other : Cell)
       → Turned (text_order text other) (cells_order inside other (cell.Text text))
   unfolding text_order cells_order
-  text_turned text (cell.Text other) = total_turned (slice_cmp nat_cmp) nat_list_cmp_total text other
+  text_turned text (cell.Text other) =
+      total_turned (slice_cmp nat_cmp) nat_list_cmp_total text other
   text_turned text _ = tt
 
   list_turned : (items : List Val) (other : Cell)

@@ -320,7 +320,8 @@ module _ (before : Test) (is : IsOrdering before) (same : Pair → Bool)
       (λ all. filter same all ≡ filter same (one ∷ more) ++ filter same others)
   merged_stably_by one more others (Err reason) first counted rest = tt
   merged_stably_by one more others (Ok n) first counted rest =
-      subst (λ whole. IfOk (in_front (take n others ++ one ∷ []) (merged before more (drop n others)))
+      subst (λ whole. IfOk (in_front (take n others ++ one ∷ [])
+      (merged before more (drop n others)))
       (λ all. filter same all ≡ filter same (one ∷ more) ++ filter same whole))
       (take-append-drop n others)
       (placed_stably one more (take n others) (drop n others) (merged before more (drop n others))

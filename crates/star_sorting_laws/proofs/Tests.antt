@@ -127,7 +127,8 @@ module _ (heap : HeapState) (way : Direction) where
         (is_order.goes_on one.key middle.key other.key) first second;
   }
 
-  pub is_alike : (key : Val) → IsAlike (comes_before heap way) (λ pair. is_tie (order heap key pair.key))
+  pub is_alike : (key : Val)
+      → IsAlike (comes_before heap way) (λ pair. is_tie (order heap key pair.key))
   unfolding comes_before
   is_alike key one other is other_is =
       tied_both way (order heap key one.key) (order heap one.key key) (order heap key other.key)

@@ -16,7 +16,8 @@ use Rattle.star_sorting.specs.Sorting.{comes_before, own_key, sorted_pairs, valu
 use Rattle.star_sorting.specs.declared.comparing.Direction.{Direction}
 use Rattle.star_sorting_laws.proofs.Merging.{InOrder, Sorts}
 use Rattle.star_sorting_laws.proofs.Permutations.{Permutes, within_permutes}
-use Rattle.star_sorting_laws.proofs.Tests.{is_alike, is_ordering, kept_later, none_alike, pairs_sort}
+use Rattle.star_sorting_laws.proofs.Tests.{is_alike, is_ordering, kept_later, none_alike}
+use Rattle.star_sorting_laws.proofs.Tests.{pairs_sort}
 use Rattle.star_sorting_laws.specs.InOrder.{IsKept, SortsValuesInOrder, SortsValuesStably, is_tie}
 
 -- a pair is its own key
