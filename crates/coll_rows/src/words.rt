@@ -49,7 +49,8 @@ impl Words {
     fn items(&mut self, alloc: Global) -> Mem<Vec<Val>> {
         let start = self.opened.pop().unwrap_or(0);
         let mut items = Vec::new(alloc);
-        while self.values.len() > start {
+        let count = self.values.len();
+        'taking: for _value in start..count {
             if let Some(value) = self.values.pop() {
                 items.push(value)?;
             }
@@ -71,7 +72,10 @@ fn dict_of(heap: &Heap, items: &[Val]) -> May<Cell, Fault> {
     let alloc = heap.alloc();
     let mut dict = Dict::new(alloc);
     let mut rest = items;
-    while let [key, value, more @ ..] = rest {
+    'putting: for _pair in 0..items.len() {
+        let [key, value, more @ ..] = rest else {
+            return Ok(Cell::Dict(dict));
+        };
         let pair = Pair {
             key: *key,
             value: *value,
