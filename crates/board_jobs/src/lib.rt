@@ -16,6 +16,7 @@
 pub mod gifts;
 pub mod index;
 pub mod jobs;
+pub mod needs;
 pub mod ready;
 pub mod searches;
 
