@@ -258,6 +258,8 @@ nothing_happened goals slots now needs halted journal events spent room made old
     same kept more is = absurd (cc)
 nothing_happened goals slots now needs halted journal events spent room made old after (Err e) view
     same kept more is =
-    subst (λ o. (seen goals now needs halted events spent ≡ o.account) × (o.room ≤ made)) view
-    (ap (λ xs. seen goals xs needs halted events spent) same
-    ∙ ap (λ es. seen goals slots needs halted es spent) kept, more)
+    subst (λ o. (seen goals now needs halted events spent ≡ o.account) × (o.room ≤ made)) view (
+      ap (λ xs. seen goals xs needs halted events spent) same
+          ∙ ap (λ es. seen goals slots needs halted es spent) kept,
+      more,
+    )

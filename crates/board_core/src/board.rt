@@ -250,11 +250,7 @@ impl<W: Work, N: BoardOf<W>> Board<W, N> {
 }
 
 /// The goals, each queued, equal ones once.
-fn goal_jobs<W: Work, N: BoardOf<W>>(
-    alloc: Global,
-    work: &W,
-    goals: &[W::Job],
-) -> Mem<Jobs<W, N>>
+fn goal_jobs<W: Work, N: BoardOf<W>>(alloc: Global, work: &W, goals: &[W::Job]) -> Mem<Jobs<W, N>>
     requires { work.now ≡ N.work }
     ensures { IfOk result (λ jobs. jobs ≡ with_jobs (bare_rules (W.meaning work.now)) goals.now []) }
 {

@@ -22,9 +22,9 @@ ghost use Rattle.std.specs.Option.{option_copied};
 
 use crate::journal::Journal;
 use board_cycle::cycle_refusal;
-use board_slots::chains::way_to;
 use board_jobs::Jobs;
 use board_jobs::needs::{put_file, put_job};
+use board_slots::chains::way_to;
 use board_slots::jobs::texts_at;
 use board_slots::needs::{answer, file_number, found_at, is_open_at, job_number, wanted};
 use board_slots::{Ending, Wanted};

@@ -125,8 +125,11 @@ module _ {J V : Type 0} (goal : ℕ → Slot J Found V Refusal → Slot J Found 
           inl (map_places-stands f (all_handed gifts slots) at (goal at slot) now
           ∙ ap (λ b. Some (if b then given_slot gift (goal at slot) else goal at slot)) off)
       go false off (inr now) =
-          inr (map_places-stands f (all_handed gifts slots) at slot now.0
-          ∙ ap (λ b. Some (if b then given_slot gift slot else slot)) off, apart)
+          inr (
+            map_places-stands f (all_handed gifts slots) at slot now.0
+                ∙ ap (λ b. Some (if b then given_slot gift slot else slot)) off,
+            apart,
+          )
         where
           apart : Has at (place ∷ places_of gifts) → ⊥
           apart (here e) = absurd (grind (arith, nat_tests))

@@ -268,10 +268,12 @@ module _ {J V : Type 0} where
       → IsTaken job_of answers_of worker place slot after claim
       → (count : ℕ) × (slice_set slots place after ≡ set_state place (Claimed worker count) slots)
   taken_set job_of answers_of worker place slots slot after (Job held part given) stands taken =
-      let job : held.job ≡ slot.job = ap (λ s. s.job) (sym taken.stood) in
-      (held.answers, ap (slice_set slots place) (taken.claimed
-      ∙ ap (λ j. record { job = j; state = Claimed worker held.answers }) job)
-      ∙ sym (put-set (λ one. record { job = one.job; state = Claimed worker held.answers }) slots place slot stands))
+      let job : held.job ≡ slot.job = ap (λ s. s.job) (sym taken.stood) in (
+        held.answers,
+        ap (slice_set slots place) (taken.claimed
+            ∙ ap (λ j. record { job = j; state = Claimed worker held.answers }) job)
+            ∙ sym (put-set (λ one. record { job = one.job; state = Claimed worker held.answers }) slots place slot stands),
+      )
   taken_set job_of answers_of worker place slots slot after Nothing stands taken = absurd taken
   taken_set job_of answers_of worker place slots slot after Finished stands taken = absurd taken
 

@@ -12,13 +12,13 @@ ghost use Rattle.board_work.specs.Turns.{answer_of};
 ghost use Rattle.board_jobs.specs.Gifts.{all_handed};
 ghost use Rattle.board_jobs.specs.Taking.{IsQueuedAt, IsTakenAt, with_new};
 
+use crate::gifts::{file_gifts, hand_out, refusal_gifts, value_gifts};
 use crate::index::Index;
 use crate::ready::{ready_at, ready_for, ready_for_new, ready_to_read, ready_to_wait};
-use crate::gifts::{file_gifts, hand_out, refusal_gifts, value_gifts};
 use crate::searches::{are_over, first_queued};
-use board_slots::{Gift, Slot};
 use board_slots::jobs::push_job;
 use board_slots::parking::{queue_at, wait_for_file, wait_for_job};
+use board_slots::{Gift, Slot};
 use board_work::{BoardOf, Claim, Given, Held, Work};
 use bz_base::{Mem, Refusal, Txt};
 use bz_tree::Found;
