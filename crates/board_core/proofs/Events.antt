@@ -1,7 +1,7 @@
 -- What an event makes of the fields of a table is what it makes of its account.
 use Rattle.std.proofs.Common.{◌≡◌, ℕ, ◌+◌, ◌<◌, ◌≤◌, Bool, true, List, [], ◌∷◌, ◌++◌, length}
 use Rattle.std.proofs.Common.{refl, ap, ◌∙◌, subst, arith, Option, Some, None, slice_get, ◌⊎◌, inl, inr}
-use Rattle.std.specs.Prelude.{min}
+use Rattle.std.specs.Prelude.{min, Result, Ok, Err, is_err}
 use Rattle.std.proofs.lemmas.Option.{slice_get_within}
 use Rattle.bz_base.specs.Counts.{last_count}
 use Rattle.bz_base.specs.declared.refusals.Refusal.{Refusal}
@@ -11,7 +11,8 @@ use Rattle.board_machine.specs.Events.{Event}
 use Rattle.board_machine.specs.Moves.{with_slots}
 use Rattle.board_machine.proofs.Slots.{length-each, pushed-stood}
 use Rattle.board_slots.specs.Needs.{is_open_at}
-use Rattle.board_core.specs.Accounts.{Account, Table, ended, noted, with_new}
+use Rattle.board_core.specs.Accounts.{Account, IsEvent, Table, ended, noted}
+use Rattle.board_jobs.specs.Taking.{with_new}
 
 module _ {J V : Type 0} where
   abbrev pub seen : ℕ → List (Slot J Found V Refusal) → List (Needed Found) → Bool → List Event → ℕ
@@ -245,3 +246,20 @@ open_within path needs need is_open = go (slice_get needs need) refl is_open
         → need < length needs
     go None e h = absurd (cc)
     go (Some one) e h = slice_get_within needs need one e
+
+-- a call that changed nothing but the room in the journal, for want of memory
+pub nothing_happened : {J V T E : Type 0} (goals : ℕ) (slots now : List (Slot J Found V Refusal))
+    (needs : List (Needed Found)) (halted : Bool) (journal events : List Event)
+    (spent room made : ℕ) (old : Table J V) (after : Account J V) (result : Result T E)
+    → seen_table (seen goals slots needs halted journal spent) room ≡ old → now ≡ slots
+    → events ≡ journal → room ≤ made → is_err result ≡ true
+    → IsEvent old (seen_table (seen goals now needs halted events spent) made) after result
+nothing_happened goals slots now needs halted journal events spent room made old after (Ok x) view
+    same kept more is = absurd (cc)
+nothing_happened goals slots now needs halted journal events spent room made old after (Err e) view
+    same kept more is =
+    subst (λ o. (seen goals now needs halted events spent ≡ o.account) × (o.room ≤ made)) view (
+      ap (λ xs. seen goals xs needs halted events spent) same
+          ∙ ap (λ es. seen goals slots needs halted es spent) kept,
+      more,
+    )

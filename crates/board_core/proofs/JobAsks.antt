@@ -19,7 +19,8 @@ use Rattle.board_machine.specs.Moves.{state_in, with_job, with_need}
 use Rattle.board_machine.proofs.Slots.{position_found, pushed-last}
 use Rattle.board_work.specs.declared.events.Parked.{Parked}
 use Rattle.board_work.specs.declared.events.Parked.TheVariants.{Waits, Ready, Refused, Cycle, Stray}
-use Rattle.board_core.specs.Accounts.{Account, Table, cycle_closed, ended, wanting_job, with_new}
+use Rattle.board_core.specs.Accounts.{Account, Table, cycle_closed, ended, wanting_job}
+use Rattle.board_jobs.specs.Taking.{with_new}
 use Rattle.board_core.specs.Calls.{outcome_in}
 use Rattle.board_core.specs.Parks.{IsParkedAs, ParkGives, after_asking, after_job, asking_slots}
 use Rattle.board_core.specs.Parks.{job_parked, parked_at, parked_on_job}

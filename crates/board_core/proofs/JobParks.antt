@@ -23,7 +23,8 @@ use Rattle.board_machine.proofs.Slots.{pushed-last}
 use Rattle.board_slots.specs.Claims.{is_held}
 use Rattle.board_slots.specs.Views.{bare_rules}
 use Rattle.board_work.specs.Turns.{Meaning, rules_of}
-use Rattle.board_core.specs.Accounts.{Table, cycle_closed, ended, wanting_job, with_new}
+use Rattle.board_core.specs.Accounts.{Table, cycle_closed, ended, wanting_job}
+use Rattle.board_jobs.specs.Taking.{with_new}
 use Rattle.board_core.specs.Calls.{outcome_in}
 use Rattle.board_core.specs.Histories.{IsHistory, IsKept, IsLinkedFor, happens}
 use Rattle.board_core.specs.Replays.{IsClaimedAt, IsReplay}

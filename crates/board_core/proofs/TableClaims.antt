@@ -17,7 +17,8 @@ use Rattle.board_work.specs.declared.worker.Claim.TheVariants.{Job, Nothing, Fin
 use Rattle.board_slots.specs.Claims.{IsTaken}
 use Rattle.board_slots.specs.Views.{queued_answers}
 use Rattle.board_core.specs.Accounts.{Account, noted}
-use Rattle.board_core.specs.Claims.{ClaimGives, IsQueuedAt, IsTakenAt, claim_count}
+use Rattle.board_core.specs.Claims.{ClaimGives, claim_count}
+use Rattle.board_jobs.specs.Taking.{IsQueuedAt, IsTakenAt}
 
 module _ {J V : Type 0} where
   -- the first queued job stands on the board

@@ -83,11 +83,6 @@ wanting_job other slots board =
       halted = board.halted;
     }
 
--- one job more, queued
-abbrev pub with_new : {J V : Type 0} → J → List (Slot J Found V Refusal)
-    → List (Slot J Found V Refusal)
-with_new job slots = slots ++ record { job = job; state = Queued [] } ∷ []
-
 -- the refusal of the cycle that a job closes by asking the job at another place, if it closes one
 abbrev pub cycle_closed : {J V : Type 0} → Rules J (List ℕ) Found V Refusal → J → ℕ → ℕ
     → List (Slot J Found V Refusal) → Option Refusal

@@ -14,20 +14,6 @@ use Rattle.board_slots.specs.Claims.{IsTaken}
 use Rattle.board_slots.specs.Views.{IsPartOf, queued_answers}
 use Rattle.board_core.specs.Accounts.{Account, noted}
 
--- the job at a place is queued
-abbrev pub IsQueuedAt : {J V : Type 0} → ℕ → List (Slot J Found V Refusal) → Type 0
-IsQueuedAt {J = J} {V = V} place slots =
-    (slot : Slot J Found V Refusal) → slice_get slots place ≡ Some slot
-    → is_queued slot.state ≡ true
-
--- the job that stands at a place is handed out
-abbrev pub IsTakenAt : {W J P V : Type 0} → (P → J) → (P → List (Answer Found V)) → ℕ → ℕ
-    → List (Slot J Found V Refusal) → List (Slot J Found V Refusal) → Claim W J P V → Type 0
-IsTakenAt {J = J} {V = V} job_of answers_of worker place old new result =
-    (slot : Slot J Found V Refusal) → slice_get old place ≡ Some slot
-    → (after : Slot J Found V Refusal)
-    × IsTaken job_of answers_of worker place slot after result × (new ≡ slice_set old place after)
-
 -- the queued job with the least number is claimed, after the answers with which it is handed out
 pub record IsClaimed {W J P V : Type 0} (job_of : P → J) (worker : ℕ) (old new : Account J V)
     (held : Held W J P V) (part : Option P) (given : Option (Given V))

@@ -9,11 +9,11 @@ ghost use Rattle.board_slots.specs.Views.{bare_rules};
 
 use crate::table::Table;
 use board_slots::Ending;
-use board_work::{Held, Parked, Work};
+use board_work::{BoardOf, Held, Parked, Work};
 use bz_base::Mem;
 use std::alloc::Global;
 
-impl<W: Work> Table<W> {
+impl<W: Work, N: BoardOf<W>> Table<W, N> {
     /// The claimed job asks another one.
     pub fn ask(
         &mut self,
@@ -24,6 +24,7 @@ impl<W: Work> Table<W> {
         asked: W::Job,
         steps: u64,
     ) -> Mem<Parked>
+        requires named { work.now ≡ N.work }
         requires within { held.place < length self.old.account.board.slots }
         requires returned { IsReturnedAt W.job_of W.answers_of held part self.old.account.board.slots }
         ensures { IsParkedAs self.old self.new
@@ -97,7 +98,7 @@ impl<W: Work> Table<W> {
                 Ok(Parked::Cycle)
             }
             None => {
-                self.wait_for(held, part, need, other, steps)?;
+                self.wait_for(alloc, held, part, need, other, steps)?;
                 Ok(Parked::Waits)
             }
         }

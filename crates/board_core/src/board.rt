@@ -20,8 +20,7 @@ ghost use Rattle.board_work.specs.Turns.{need_turn, rules_of};
 ghost use Rattle.board_work.specs.declared.turns.Need.TheVariants.{File, Job};
 
 use crate::table::Table;
-use board_slots::Slot;
-use board_slots::jobs::add_job;
+use board_jobs::Jobs;
 use board_work::{BoardOf, Claim, Event, Held, Need, Parked, Stop, Work};
 use bz_base::{Mem, OutOfMemory, Refusal, Seq, TreePath};
 use bz_tree::Found;
@@ -33,7 +32,7 @@ use std::sync::Arc;
 /// happened on it, and the steps spent.
 #[derive(Drop)]
 pub struct Board<W: Work, N: BoardOf<W>> {
-    table: Table<W>,
+    table: Table<W, N>,
     of: PhantomData<N>,
 }
 
@@ -56,9 +55,9 @@ impl<W: Work, N: BoardOf<W>> Board<W, N> {
         requires own { AllOwn (bare_rules (W.meaning N.work)) N.goals }
         ensures { IfOk result (λ board. board ≡ opened (bare_rules (W.meaning N.work)) N.goals) }
     {
-        let slots = goal_slots(alloc, work, goals.items())?;
+        let jobs = goal_jobs::<W, N>(alloc, work, goals.items())?;
         Ok(Board {
-            table: Table::open(alloc, slots)?,
+            table: Table::open(alloc, jobs)?,
             of: PhantomData,
         })
     }
@@ -89,7 +88,7 @@ impl<W: Work, N: BoardOf<W>> Board<W, N> {
         ensures { HeldParkGives (W.meaning N.work) held (W.answers_of part) need spent self.old self.new result }
     {
         match need {
-            Need::File(path) => self.park_on_file(work, held, part, path, spent),
+            Need::File(path) => self.park_on_file(alloc, work, held, part, path, spent),
             Need::Job(asked) => self.park_on_job(alloc, work, held, part, asked, spent),
         }
     }
@@ -97,6 +96,7 @@ impl<W: Work, N: BoardOf<W>> Board<W, N> {
     /// Parks a claimed job on a file, or queues it at once with what was found there.
     fn park_on_file(
         &mut self,
+        alloc: Global,
         work: &W,
         held: Held<W>,
         part: W::Part,
@@ -122,7 +122,7 @@ impl<W: Work, N: BoardOf<W>> Board<W, N> {
                 Ok(Parked::Ready)
             }
             None => {
-                self.table.wait(held, part, need, path, spent)?;
+                self.table.wait(alloc, held, part, need, path, spent)?;
                 Ok(Parked::Waits)
             }
         }
@@ -250,12 +250,13 @@ impl<W: Work, N: BoardOf<W>> Board<W, N> {
 }
 
 /// The goals, each queued, equal ones once.
-fn goal_slots<W: Work>(alloc: Global, work: &W, goals: &[W::Job]) -> Mem<Vec<Slot<W>>>
-    ensures { IfOk result (λ slots. slots.items ≡ with_jobs (bare_rules (W.meaning work.now)) goals.now []) }
+fn goal_jobs<W: Work, N: BoardOf<W>>(alloc: Global, work: &W, goals: &[W::Job]) -> Mem<Jobs<W, N>>
+    requires { work.now ≡ N.work }
+    ensures { IfOk result (λ jobs. jobs ≡ with_jobs (bare_rules (W.meaning work.now)) goals.now []) }
 {
-    let mut slots = Vec::new(alloc);
+    let mut jobs = Jobs::new(alloc);
     for goal in goals {
-        add_job(alloc, work, &mut slots, goal)?;
+        jobs.add(alloc, work, goal)?;
     }
-    Ok(slots)
+    Ok(jobs)
 }

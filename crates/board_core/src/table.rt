@@ -1,15 +1,17 @@
 //! How a board stands, and the events that change it, whatever its work is.
-ghost use Rattle.std.specs.Prelude.{◌≡◌, ◌≤◌, ◌<◌, ◌+◌, [], true, false, Some, IfOk, length};
-ghost use Rattle.std.specs.Prelude.{is_some, nat_lt, slice_get, vec_len, option_map, map};
-ghost use Rattle.board_core.specs.Accounts.{HasRoom, IsEvent, IsHalted, cycle_closed, ended, noted, waiting_for_file, wanting_job, with_new};
-ghost use Rattle.board_core.specs.Claims.{ClaimGives, IsQueuedAt, IsTakenAt, claim_count};
+ghost use Rattle.std.specs.Prelude.{◌≡◌, ◌≤◌, ◌+◌, ◌<◌, ◌||◌, [], true, false, IfOk, length};
+ghost use Rattle.std.specs.Prelude.{is_some, nat_lt, slice_get, take, option_map, map};
+ghost use Rattle.board_core.specs.Accounts.{HasRoom, IsEvent, IsHalted, cycle_closed, ended, noted};
+ghost use Rattle.board_core.specs.Accounts.{waiting_for_file, wanting_job};
+ghost use Rattle.board_jobs.specs.Taking.{with_new};
+ghost use Rattle.board_core.specs.Claims.{ClaimGives, claim_count};
 ghost use Rattle.board_machine.specs.Boards.{OnJob, Queued};
 ghost use Rattle.board_machine.specs.Events.{Finish, Park, Shelve};
 ghost use Rattle.board_laws.specs.Works;
 ghost use Rattle.std.specs.Arc.{arc_value};
 ghost use Rattle.std.specs.List.{position_or_len};
 ghost use Rattle.std.specs.Prelude.{◌∷◌};
-ghost use Rattle.board_machine.specs.Moves.{finish_refused, finish_value, is_over};
+ghost use Rattle.board_machine.specs.Moves.{finish_refused, finish_value, goals_over};
 ghost use Rattle.board_machine.specs.Moves.{is_file, is_job, place_of, set_state, shelve, spread_refusal, with_slots};
 ghost use Rattle.board_slots.specs.Claims.{IsReturnedAt, is_held};
 ghost use Rattle.board_slots.specs.Needs.{IsFirstOpen, found_in, is_open_at};
@@ -20,15 +22,13 @@ ghost use Rattle.std.specs.Option.{option_copied};
 
 use crate::journal::Journal;
 use board_cycle::cycle_refusal;
+use board_jobs::Jobs;
+use board_jobs::needs::{put_file, put_job};
 use board_slots::chains::way_to;
-use board_slots::handing::{file_gifts, hand_out, refusal_gifts, value_gifts};
-use board_slots::jobs::{are_over, first_queued, place_of, push_job, texts_at};
-use board_slots::needs::{
-    answer, file_number, found_at, is_open_at, job_number, want_file, want_job, wanted,
-};
-use board_slots::parking::{queue_at, wait_for_file, wait_for_job};
-use board_slots::{Ending, Slot, Wanted};
-use board_work::{Claim, Event, Given, Held, Stop, Work};
+use board_slots::jobs::texts_at;
+use board_slots::needs::{answer, file_number, found_at, is_open_at, job_number, wanted};
+use board_slots::{Ending, Wanted};
+use board_work::{BoardOf, Claim, Event, Given, Held, Stop, Work};
 use bz_base::{Mem, Refusal, TreePath};
 use bz_tree::Found;
 use std::alloc::Global;
@@ -37,37 +37,42 @@ use std::sync::Arc;
 
 /// The jobs of a board, their needs, what happened, and the steps spent.
 #[derive(Drop)]
-pub struct Table<W: Work> {
+pub struct Table<W: Work, N: BoardOf<W>> {
     goals: usize,
-    slots: Vec<Slot<W>>,
+    jobs: Jobs<W, N>,
     needs: Vec<Wanted>,
     stop: Option<Stop>,
     journal: Journal,
     spent: u64,
 }
 
-impl<W: Work> Model for Table<W> {
+impl<W: Work, N: BoardOf<W>> Model for Table<W, N> {
     ghost use Rattle.std.specs.Prelude.{is_some, length, ◌≤◌};
     ghost use Rattle.board_core.specs.Accounts.{Table as Seen};
 
     ghost Value = { Seen W.Job W.Value };
 
-    ghost view = { λ t. record { account = record { board = record { goals = t.goals; slots = t.slots.items; needs = t.needs.items; halted = is_some t.stop }; journal = t.journal.events; spent = t.spent }; room = t.journal.room } };
+    ghost view = { λ t. record { account = record { board = record { goals = t.goals; slots = t.jobs; needs = t.needs.items; halted = is_some t.stop }; journal = t.journal.events; spent = t.spent }; room = t.journal.room } };
 
-    ghost invariant = { λ t. t.goals ≤ length t.slots.items };
+    ghost invariant = { λ t. t.goals ≤ length t.jobs };
 }
 
-impl<W: Work> Table<W> {
+impl<W: Work, N: BoardOf<W>> Table<W, N> {
     /// A table on which each of these jobs is a goal.
-    pub fn open(alloc: Global, slots: Vec<Slot<W>>) -> Mem<Table<W>>
-        ensures opened { IfOk result (λ table. table.account ≡ record { board = record { goals = length slots.items; slots = slots.items; needs = []; halted = false }; journal = []; spent = 0 }) }
-        ensures room { IfOk result (λ table. length slots.items + 1 ≤ table.room) }
+    pub fn open(alloc: Global, jobs: Jobs<W, N>) -> Mem<Table<W, N>>
+        ensures opened { IfOk result (λ table. table.account ≡ record {
+          board = record { goals = length jobs; slots = jobs; needs = []; halted = false };
+          journal = [];
+          spent = 0;
+        }) }
+        ensures room { IfOk result (λ table. length jobs + 1 ≤ table.room) }
     {
         let mut journal = Journal::new(alloc);
-        journal.make_room(slots.len() + 1)?;
+        let goals = jobs.slots().len();
+        journal.make_room(goals + 1)?;
         Ok(Table {
-            goals: slots.len(),
-            slots,
+            goals,
+            jobs,
             needs: Vec::new(alloc),
             stop: None,
             journal,
@@ -75,17 +80,11 @@ impl<W: Work> Table<W> {
         })
     }
 
-    pub fn is_over(&self) -> bool
-        ensures { result ≡ is_over self.now.account.board }
-    {
-        self.stop.is_some() || are_over(&self.slots[..self.goals])
-    }
-
     /// Whether the job at the place is the one held, claimed by its worker after so many answers.
     pub fn holds(&self, work: &W, held: &Held<W>) -> bool
         ensures { result ≡ is_held (W.meaning work.now).text held.now.job held.now.worker held.now.answers (slice_get self.now.account.board.slots held.now.place) }
     {
-        match self.slots.get(held.place as usize) {
+        match self.jobs.slots().get(held.place as usize) {
             Some(slot) => {
                 slot.is_claimed_by(held.worker, held.answers)
                     && work.text(&held.job) == work.text(slot.job())
@@ -100,18 +99,18 @@ impl<W: Work> Table<W> {
         ensures gives { ClaimGives W.job_of W.answers_of worker self.old.account self.new.account result }
         ensures room { self.old.room ≤ self.new.room + claim_count result }
     {
-        if self.is_over() {
+        if are_over(&mut self.jobs, self.goals, self.stop.is_some()) {
             return Claim::Finished;
         }
-        let place = first_queued(&self.slots);
-        if place == self.slots.len() {
+        let place = self.jobs.first_queued();
+        if place == self.jobs.slots().len() {
             return Claim::Nothing;
         }
         self.journal.write(Event::Claim {
             worker,
             job: place as u64,
         });
-        take_at(&mut self.slots, worker, place)
+        self.jobs.take(worker, place)
     }
 
     pub fn finish_value(
@@ -125,9 +124,9 @@ impl<W: Work> Table<W> {
         ensures { IsEvent self.old self.new (ended (Finish worker place false) steps (finish_value place value self.old.account.board) self.old.account) result }
     {
         let value = Arc::new(alloc, value)?;
-        let gifts = value_gifts(alloc, &self.slots, place, &value)?;
-        self.journal.make_room(self.slots.len() + 2)?;
-        hand_out(&mut self.slots, gifts);
+        let gifts = self.jobs.value_gifts(alloc, place, &value)?;
+        self.journal.make_room(self.jobs.slots().len() + 2)?;
+        self.jobs.hand_out(gifts)?;
         self.journal.write(Event::Finish {
             worker,
             job: place as u64,
@@ -148,9 +147,9 @@ impl<W: Work> Table<W> {
         ensures { IsEvent self.old self.new (ended (Finish worker place true) steps (finish_refused place refusal self.old.account.board) self.old.account) result }
     {
         let refusal = Arc::new(alloc, refusal)?;
-        let gifts = refusal_gifts(alloc, &self.slots, place, &refusal)?;
-        self.journal.make_room(self.slots.len() + 2)?;
-        hand_out(&mut self.slots, gifts);
+        let gifts = self.jobs.refusal_gifts(alloc, place, &refusal)?;
+        self.journal.make_room(self.jobs.slots().len() + 2)?;
+        self.jobs.hand_out(gifts)?;
         self.journal.write(Event::Finish {
             worker,
             job: place as u64,
@@ -175,8 +174,8 @@ impl<W: Work> Table<W> {
     {
         let worker = held.worker;
         let job = held.place;
-        self.journal.make_room(self.slots.len() + 2)?;
-        queue_at(&mut self.slots, held, part, Given::File(found));
+        self.journal.make_room(self.jobs.slots().len() + 2)?;
+        self.jobs.queue_at(held, part, Given::File(found))?;
         self.journal.write(Event::Park {
             worker,
             job,
@@ -189,6 +188,7 @@ impl<W: Work> Table<W> {
     /// The claimed job waits for a file.
     pub fn wait(
         &mut self,
+        alloc: Global,
         held: Held<W>,
         part: W::Part,
         need: usize,
@@ -202,9 +202,10 @@ impl<W: Work> Table<W> {
     {
         let worker = held.worker;
         let job = held.place;
-        self.journal.make_room(self.slots.len() + 2)?;
-        want_file(&mut self.needs, need, path)?;
-        wait_for_file(&mut self.slots, held, part, need);
+        self.journal.make_room(self.jobs.slots().len() + 2)?;
+        self.needs.reserve(1)?;
+        self.jobs.wait_for_file(alloc, held, part, need)?;
+        put_file(&mut self.needs, need, path);
         self.journal.write(Event::Park {
             worker,
             job,
@@ -216,15 +217,16 @@ impl<W: Work> Table<W> {
 
     /// The place of a job, or that which it would have.
     pub fn place_of(&self, work: &W, job: &W::Job) -> usize
+        requires { work.now ≡ N.work }
         ensures { result ≡ place_of (bare_rules (W.meaning work.now)) job.now self.now.account.board.slots }
     {
-        place_of(work, &self.slots, job)
+        self.jobs.place_of(work, job)
     }
 
     pub fn has_place(&self, place: usize) -> bool
         ensures { result ≡ nat_lt place (length self.now.account.board.slots) }
     {
-        place < self.slots.len()
+        place < self.jobs.slots().len()
     }
 
     /// The number of a job's need, or that which it would have.
@@ -238,7 +240,7 @@ impl<W: Work> Table<W> {
     pub fn ending(&self, place: usize) -> Mem<Ending<W::Value>>
         ensures { IfOk result (λ ending. result_in ending ≡ outcome_in (slice_get self.now.account.board.slots place)) }
     {
-        match self.slots.get(place) {
+        match self.jobs.slots().get(place) {
             Some(slot) => slot.ending(),
             None => Ok(Ending::Open),
         }
@@ -255,10 +257,10 @@ impl<W: Work> Table<W> {
     ) -> Mem<Option<Arc<Refusal>>>
         ensures { IfOk result (λ refusal. option_map arc_value refusal ≡ cycle_closed (bare_rules (W.meaning work.now)) job.now place other self.now.account.board.slots) }
     {
-        match way_to(alloc, &self.slots, place, other)? {
+        match way_to(alloc, self.jobs.slots(), place, other)? {
             None => Ok(None),
             Some(places) => {
-                let texts = texts_at(alloc, work, &self.slots, job, places.as_slice())?;
+                let texts = texts_at(alloc, work, self.jobs.slots(), job, places.as_slice())?;
                 let refusal = cycle_refusal(alloc, texts.as_slice())?;
                 Ok(Some(Arc::new(alloc, refusal)?))
             }
@@ -282,9 +284,10 @@ impl<W: Work> Table<W> {
     {
         let worker = held.worker;
         let job = held.place;
-        self.journal.make_room(self.slots.len() + 2)?;
-        want_job(&mut self.needs, need, other)?;
-        queue_at(&mut self.slots, held, part, Given::Value(value));
+        self.journal.make_room(self.jobs.slots().len() + 2)?;
+        self.needs.reserve(1)?;
+        self.jobs.queue_at(held, part, Given::Value(value))?;
+        put_job(&mut self.needs, need, other);
         self.journal.write(Event::Park {
             worker,
             job,
@@ -308,10 +311,11 @@ impl<W: Work> Table<W> {
         requires number { need ≡ position_or_len (is_job other) self.old.account.board.needs }
         ensures { IsEvent self.old self.new (ended (Park worker place need) steps (wanting_job other (spread_refusal place (arc_value refusal.now) self.old.account.board.slots) self.old.account.board) self.old.account) result }
     {
-        let gifts = refusal_gifts(alloc, &self.slots, place, refusal)?;
-        self.journal.make_room(self.slots.len() + 2)?;
-        want_job(&mut self.needs, need, other)?;
-        hand_out(&mut self.slots, gifts);
+        let gifts = self.jobs.refusal_gifts(alloc, place, refusal)?;
+        self.journal.make_room(self.jobs.slots().len() + 2)?;
+        self.needs.reserve(1)?;
+        self.jobs.hand_out(gifts)?;
+        put_job(&mut self.needs, need, other);
         self.journal.write(Event::Park {
             worker,
             job: place as u64,
@@ -324,6 +328,7 @@ impl<W: Work> Table<W> {
     /// The claimed job waits for another one.
     pub fn wait_for(
         &mut self,
+        alloc: Global,
         held: Held<W>,
         part: W::Part,
         need: usize,
@@ -337,9 +342,10 @@ impl<W: Work> Table<W> {
     {
         let worker = held.worker;
         let job = held.place;
-        self.journal.make_room(self.slots.len() + 2)?;
-        want_job(&mut self.needs, need, other)?;
-        wait_for_job(&mut self.slots, held, part, need, other);
+        self.journal.make_room(self.jobs.slots().len() + 2)?;
+        self.needs.reserve(1)?;
+        self.jobs.wait_for_job(alloc, held, part, need, other)?;
+        put_job(&mut self.needs, need, other);
         self.journal.write(Event::Park {
             worker,
             job,
@@ -360,6 +366,9 @@ impl<W: Work> Table<W> {
         asked: W::Job,
         steps: u64,
     ) -> Mem<()>
+        requires named { work.now ≡ N.work }
+        requires new { place_of (bare_rules (W.meaning work.now)) asked self.old.account.board.slots
+            ≡ length self.old.account.board.slots }
         requires number { need ≡ position_or_len (is_job (length self.old.account.board.slots)) self.old.account.board.needs }
         requires within { held.place < length self.old.account.board.slots }
         requires returned { IsReturnedAt W.job_of W.answers_of held part self.old.account.board.slots }
@@ -367,13 +376,12 @@ impl<W: Work> Table<W> {
     {
         let worker = held.worker;
         let job = held.place;
-        let other = self.slots.len();
-        let copy = work.copy_job(alloc, &asked)?;
-        self.slots.reserve(1)?;
+        let other = self.jobs.slots().len();
         self.journal.make_room(other + 3)?;
-        want_job(&mut self.needs, need, other)?;
-        push_job(&mut self.slots, asked, copy);
-        wait_for_job(&mut self.slots, held, part, need, other);
+        self.needs.reserve(1)?;
+        self.jobs
+            .wait_for_new(alloc, work, held, part, need, asked)?;
+        put_job(&mut self.needs, need, other);
         self.journal.write(Event::Park {
             worker,
             job,
@@ -409,9 +417,9 @@ impl<W: Work> Table<W> {
         ensures { IsEvent self.old self.new (noted (Shelve need) (shelve need found self.old.account.board) self.old.account) result }
     {
         let found = Arc::new(alloc, found)?;
-        let gifts = file_gifts(alloc, &self.slots, need, &found)?;
-        self.journal.make_room(self.slots.len() + 2)?;
-        hand_out(&mut self.slots, gifts);
+        let gifts = self.jobs.file_gifts(alloc, need, &found)?;
+        self.journal.make_room(self.jobs.slots().len() + 2)?;
+        self.jobs.hand_out(gifts)?;
         answer(&mut self.needs, need, found);
         self.journal.write(Event::Shelve { need: need as u64 });
         Ok(())
@@ -440,7 +448,7 @@ impl<W: Work> Table<W> {
     pub fn job(&self, place: usize) -> Option<&W::Job>
         ensures { option_copied result ≡ job_at (slice_get self.now.account.board.slots place) }
     {
-        match self.slots.get(place) {
+        match self.jobs.slots().get(place) {
             Some(slot) => Some(slot.job()),
             None => None,
         }
@@ -449,7 +457,7 @@ impl<W: Work> Table<W> {
     pub fn outcome(&self, place: usize) -> Option<Result<&Arc<W::Value>, &Refusal>>
         ensures { option_map outcome_of result ≡ outcome_in (slice_get self.now.account.board.slots place) }
     {
-        match self.slots.get(place) {
+        match self.jobs.slots().get(place) {
             Some(slot) => slot.outcome(),
             None => None,
         }
@@ -474,13 +482,14 @@ impl<W: Work> Table<W> {
     }
 }
 
-/// Hands out the queued job at that place.
-fn take_at<W: Work>(slots: &mut Vec<Slot<W>>, worker: u32, place: usize) -> Claim<W>
-    requires within { place < vec_len slots.old }
-    requires queued { IsQueuedAt place slots.old.items }
-    ensures taken { IsTakenAt W.job_of W.answers_of worker place slots.old.items slots.new.items result }
-    ensures length { length slots.new.items ≡ length slots.old.items }
+/// Whether the board is halted, or its goals are over.
+fn are_over<W: Work, N: BoardOf<W>>(jobs: &mut Jobs<W, N>, goals: usize, halted: bool) -> bool
+    requires { goals ≤ length jobs.old }
+    ensures over { result ≡ (halted || goals_over (take goals jobs.old)) }
+    ensures kept { jobs.new ≡ jobs.old }
 {
-    let slot = &mut slots[place];
-    slot.claim(worker, place)
+    if halted {
+        return true;
+    }
+    jobs.are_over(goals)
 }

@@ -33,3 +33,12 @@ returns g c =
     c.place_of-other.ensures (sym c.has_place.ensures ∙ c.if-has_place.false))
     c.requires.within c.job_number-need.ensures c.in_ok-wait_for_new.ensures.0
     c.in_ok-wait_for_new.ensures.1
+
+pub wait_for_new-requires-clause-new : goal.wait_for_new-requires-clause-new
+wait_for_new-requires-clause-new g c κs within =
+    let account = c.args.self.now.account in
+    let last : c.place_of-other.result ≡ length account.board.slots =
+    last_place (bare_rules (g.W.Work.meaning c.args.work.now)) c.args.asked account.board.slots
+    c.place_of-other.result c.place_of-other.ensures
+    (sym c.has_place.ensures ∙ c.if-has_place.false) in
+    sym c.place_of-other.ensures ∙ last

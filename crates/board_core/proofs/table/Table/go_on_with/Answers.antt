@@ -1,4 +1,4 @@
-use Rattle.std.proofs.Common.{◌==◌, ◌∙◌, ◌++◌, ◌∷◌, [], ap, sym, subst, rules}
+use Rattle.std.proofs.Common.{length, ◌==◌, ◌∙◌, ◌++◌, ◌∷◌, [], ap, sym, subst, rules}
 use Rattle.std.specs.Prelude.{if◌then◌else◌, is_some}
 use Rattle.std.specs.Arc.{arc_value}
 use Rattle.board_laws.specs.Works
@@ -13,20 +13,20 @@ pub invariant_of-self-2 : goal.invariant_of-self-2
 invariant_of-self-2 g c =
     goals_kept (λ at slot.
     if at == c.args.held.place then record { job = slot.job; state = Queued (Works.Value (arc_value c.args.value) ∷ g.W.Work.answers_of c.args.part) } else slot)
-    c.self.inside.goals c.self.inside.slots.items c.queue_at.new.slots.items
-    c.queue_at.ensures c.self.invariant
+    c.self.inside.goals c.self.inside.jobs c.queue_at.new.self
+    c.in_ok-queue_at.ensures.queued c.self.invariant
 
 pub returns : goal.returns
 returns g c =
     parked_of (λ at slot.
     if at == c.args.held.place then record { job = slot.job; state = Queued (Works.Value (arc_value c.args.value) ∷ g.W.Work.answers_of c.args.part) } else slot) (with_need (is_job c.args.other) (Job c.args.other))
-    c.self.inside.goals c.self.inside.slots.items c.queue_at.new.slots.items
-    c.self.inside.needs.items c.want_job.new.needs.items
+    c.self.inside.goals c.self.inside.jobs c.queue_at.new.self
+    c.self.inside.needs.items c.put_job.new.needs.items
     (is_some c.self.inside.stop) c.self.inside.journal.events
     c.write.new.self.events c.self.inside.spent c.saturating_add-self-inside.result
-    c.self.inside.journal.room c.make_room.new.self.room c.write.new.self.room c.len.result
+    c.self.inside.journal.room c.make_room.new.self.room c.write.new.self.room (length c.slots.result.now)
     c.args.self.now (Events.Park c.args.held.worker c.args.held.place c.args.need) c.args.steps
-    c.self.view_is c.queue_at.ensures c.in_ok-want_job.ensures.wanted
+    c.self.view_is c.in_ok-queue_at.ensures.queued (c.put_job.ensures ∙ ap (with_need (is_job c.args.other) (Job c.args.other)) c.in_ok-reserve.ensures.items)
     (c.write.ensures.written ∙ ap (λ events. events ++ Events.Park c.args.held.worker c.args.held.place c.args.need ∷ []) c.make_room.ensures.kept)
     (search rules) (search rules) (search rules) c.write.ensures.room
 

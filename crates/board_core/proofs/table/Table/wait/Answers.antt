@@ -1,4 +1,4 @@
-use Rattle.std.proofs.Common.{◌==◌, ◌∙◌, ◌++◌, ◌∷◌, [], ap, sym, subst, rules}
+use Rattle.std.proofs.Common.{length, ◌==◌, ◌∙◌, ◌++◌, ◌∷◌, [], ap, sym, subst, rules}
 use Rattle.std.specs.Prelude.{if◌then◌else◌, is_some, None}
 use Rattle.board_machine.specs.Boards.{File, OnFile}
 use Rattle.board_machine.specs.Events
@@ -11,20 +11,20 @@ pub invariant_of-self-2 : goal.invariant_of-self-2
 invariant_of-self-2 g c =
     goals_kept (λ at slot.
     if at == c.args.held.place then record { job = slot.job; state = OnFile (g.W.Work.answers_of c.args.part) c.args.need } else slot)
-    c.self.inside.goals c.self.inside.slots.items c.wait_for_file.new.slots.items
-    c.wait_for_file.ensures c.self.invariant
+    c.self.inside.goals c.self.inside.jobs c.wait_for_file.new.self
+    c.in_ok-wait_for_file.ensures.waits c.self.invariant
 
 pub returns : goal.returns
 returns g c =
     parked_of (λ at slot.
     if at == c.args.held.place then record { job = slot.job; state = OnFile (g.W.Work.answers_of c.args.part) c.args.need } else slot) (with_need (is_file c.args.path) (File c.args.path None))
-    c.self.inside.goals c.self.inside.slots.items c.wait_for_file.new.slots.items
-    c.self.inside.needs.items c.want_file.new.needs.items
+    c.self.inside.goals c.self.inside.jobs c.wait_for_file.new.self
+    c.self.inside.needs.items c.put_file.new.needs.items
     (is_some c.self.inside.stop) c.self.inside.journal.events
     c.write.new.self.events c.self.inside.spent c.saturating_add-self-inside.result
-    c.self.inside.journal.room c.make_room.new.self.room c.write.new.self.room c.len.result
+    c.self.inside.journal.room c.make_room.new.self.room c.write.new.self.room (length c.slots.result.now)
     c.args.self.now (Events.Park c.args.held.worker c.args.held.place c.args.need) c.args.steps
-    c.self.view_is c.wait_for_file.ensures c.in_ok-want_file.ensures.wanted
+    c.self.view_is c.in_ok-wait_for_file.ensures.waits (c.put_file.ensures ∙ ap (with_need (is_file c.args.path) (File c.args.path None)) c.in_ok-reserve.ensures.items)
     (c.write.ensures.written ∙ ap (λ events. events ++ Events.Park c.args.held.worker c.args.held.place c.args.need ∷ []) c.make_room.ensures.kept)
     (search rules) (search rules) (search rules) c.write.ensures.room
 

@@ -1,7 +1,7 @@
 use Rattle.std.proofs.Common.{◌≡◌, refl, subst, length, rules, slice_get, Some}
 use Rattle.std.proofs.lemmas.Option.{slice_get_read}
 use Rattle.board_slots.specs.Claims.{IsTaken}
-use Rattle.board_core.proofs.table.take_at.Goals as goal
+use Rattle.board_jobs.proofs.jobs.take_at.Goals as goal
 
 pub returns-clause-taken : goal.returns-clause-taken
 returns-clause-taken g c =

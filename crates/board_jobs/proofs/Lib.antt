@@ -1,0 +1,4 @@
+pub mod IndexLists
+pub mod Handing
+pub mod Fitting
+pub mod Indexed
