@@ -76,16 +76,38 @@ fn outcome(alloc: Global, row: &str) -> Mem<Txt> {
     answer(alloc, call, given)
 }
 
+/// An answer is told behind the others; one that is empty isn't.
+pub(crate) fn tell(told: &mut String, answer: &Txt) -> Mem<()> {
+    if answer.as_str() != "" {
+        told.push_str(answer.as_str())?;
+        told.push_str(";")?;
+    }
+    Ok(())
+}
+
+fn compared(alloc: Global, row: &str, want: &str) -> Mem<Option<Txt>> {
+    let got = outcome(alloc, row)?;
+    let got = got.as_str();
+    if got == want {
+        return Ok(None);
+    }
+    Ok(Some(Txt::of_string(format!(in alloc; "{row} => {got}")?)))
+}
+
+/// A line that doesn't give what stands beside it, with what it gives.
+fn wrong(alloc: Global, line: &str) -> Mem<Option<Txt>> {
+    match line.split_once(" => ") {
+        Some((row, want)) => compared(alloc, row, want),
+        None => Ok(Some(Txt::of(alloc, line)?)),
+    }
+}
+
 /// The first line of a table that doesn't give what stands beside it, with what it gives.
 pub(crate) fn first_wrong(alloc: Global, table: &str) -> Mem<Option<Txt>> {
     for line in table.split('\n') {
-        let Some((row, want)) = line.split_once(" => ") else {
-            return Ok(Some(Txt::of(alloc, line)?));
-        };
-        let got = outcome(alloc, row)?;
-        if got.as_str() != want {
-            let got = got.as_str();
-            return Ok(Some(Txt::of_string(format!(in alloc; "{row} => {got}")?)));
+        let wrong = wrong(alloc, line)?;
+        if wrong.is_some() {
+            return Ok(wrong);
         }
     }
     Ok(None)

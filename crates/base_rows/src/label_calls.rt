@@ -1,5 +1,5 @@
 //! Calls on labels and repository mappings.
-use crate::calls::{both, truth, word};
+use crate::calls::{both, tell, truth, word};
 use bz_base::{
     Label, May, Mem, Miss, NotPlain, OutOfMemory, Txt, is_apparent, is_canonical, read_label,
 };
@@ -64,8 +64,7 @@ fn step(alloc: Global, map: &mut Mapping, step: &str) -> Mem<Txt> {
 fn steps(alloc: Global, map: &mut Mapping, given: &str, told: &mut String) -> Mem<()> {
     for one in given.split(';') {
         let answer = step(alloc, map, one)?;
-        told.push_str(answer.as_str())?;
-        told.push_str(";")?;
+        tell(told, &answer)?;
     }
     Ok(())
 }
@@ -92,14 +91,19 @@ fn parts(alloc: Global, label: &Label) -> Mem<Txt> {
     Ok(Txt::of_string(format!(in alloc; "{repo} | {package} | {name}")?))
 }
 
-fn meaning(alloc: Global, map: &Mapping, text: &str) -> Mem<Txt> {
-    let home = home_file(alloc)?;
-    match resolve(alloc, map, &home, text) {
+fn meaning_told(alloc: Global, meaning: May<Label, LabelMiss>) -> Mem<Txt> {
+    match meaning {
         Ok(label) => parts(alloc, &label),
         Err(Miss::Because(LabelMiss::BadLabel)) => Txt::of(alloc, "BadLabel"),
         Err(Miss::Because(LabelMiss::NotVisible { .. })) => Txt::of(alloc, "NotVisible"),
         Err(Miss::OutOfMemory) => Err(OutOfMemory),
     }
+}
+
+fn meaning(alloc: Global, map: &Mapping, text: &str) -> Mem<Txt> {
+    let home = home_file(alloc)?;
+    let meaning = resolve(alloc, map, &home, text);
+    meaning_told(alloc, meaning)
 }
 
 /// The parts of the label that a text means in the file `@@h+//p:f`, under one pair or none.

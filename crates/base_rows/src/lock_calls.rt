@@ -1,5 +1,5 @@
 //! Steps on a keeper of the lockfile in memory.
-use crate::calls::word;
+use crate::calls::{tell, word};
 use bz_base::{Mem, OutOfMemory, Seq, Txt};
 use bz_tree::{Loaded, LockKeeper, MemLock, OutsideFault};
 use std::alloc::Global;
@@ -51,8 +51,7 @@ fn step(alloc: Global, lock: &mut MemLock, step: &str) -> Mem<Txt> {
 fn steps(alloc: Global, lock: &mut MemLock, given: &str, told: &mut String) -> Mem<()> {
     for one in given.split(';') {
         let answer = step(alloc, lock, one)?;
-        told.push_str(answer.as_str())?;
-        told.push_str(";")?;
+        tell(told, &answer)?;
     }
     Ok(())
 }

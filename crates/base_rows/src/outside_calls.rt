@@ -1,5 +1,5 @@
 //! Steps on a tree and a sink in memory.
-use crate::calls::{both, word};
+use crate::calls::{both, tell, word};
 use crate::path_calls::path;
 use bz_base::{BadPath, May, Mem, Miss, OutOfMemory, Seq, TreePath, Txt};
 use bz_tree::{Found, MemSink, MemTree, OutsideFault, Sink, Tree};
@@ -11,7 +11,6 @@ fn listing(alloc: Global, names: &[Txt]) -> Mem<Txt> {
         line.push_str(" ")?;
         line.push_str(name.as_str())?;
     }
-    line.push_str(";")?;
     Ok(Txt::of_string(line))
 }
 
@@ -19,38 +18,38 @@ fn found(alloc: Global, found: &Found) -> Mem<Txt> {
     match found {
         Found::Bytes(bytes) => {
             let count = bytes.items().len();
-            Ok(Txt::of_string(format!(in alloc; "{count} bytes;")?))
+            Ok(Txt::of_string(format!(in alloc; "{count} bytes")?))
         }
-        Found::Large => Txt::of(alloc, "large;"),
-        Found::Absent => Txt::of(alloc, "absent;"),
+        Found::Large => Txt::of(alloc, "large"),
+        Found::Absent => Txt::of(alloc, "absent"),
         Found::Listing(names) => listing(alloc, names.items()),
     }
 }
 
 /// What a tree has at a path.
-pub(crate) fn read<T: Tree>(alloc: Global, tree: &mut T, path: &TreePath) -> Mem<Txt> {
+fn read<T: Tree>(alloc: Global, tree: &mut T, path: &TreePath) -> Mem<Txt> {
     match tree.read(alloc, path) {
         Ok(what) => found(alloc, &what),
-        Err(OutsideFault::Failed) => Txt::of(alloc, "failed;"),
+        Err(OutsideFault::Failed) => Txt::of(alloc, "failed"),
         Err(OutsideFault::OutOfMemory) => Err(OutOfMemory),
     }
 }
 
 /// A file of one byte is placed, with room made for it.
-pub(crate) fn place<T: Tree>(alloc: Global, tree: &mut T, path: TreePath) -> Mem<Txt> {
+fn place<T: Tree>(alloc: Global, tree: &mut T, path: TreePath) -> Mem<Txt> {
     let bytes = Seq::of_vec(vec![in alloc; 97u8]?);
     tree.room(alloc, 1)?;
     match tree.place(path, bytes) {
-        Ok(()) => Txt::of(alloc, "placed;"),
-        Err(_) => Txt::of(alloc, "refused;"),
+        Ok(()) => Txt::of(alloc, "placed"),
+        Err(_) => Txt::of(alloc, "refused"),
     }
 }
 
-fn put(alloc: Global, tree: &mut MemTree, given: &str) -> May<(), BadPath> {
+fn put(alloc: Global, tree: &mut MemTree, given: &str) -> May<Txt, BadPath> {
     let (text, bytes) = word(given);
     let path = path(alloc, text)?;
     tree.put(alloc, path, bytes.as_bytes())?;
-    Ok(())
+    Ok(Txt::of(alloc, "")?)
 }
 
 fn number(text: &str) -> u64 {
@@ -60,24 +59,45 @@ fn number(text: &str) -> u64 {
     }
 }
 
+fn fail_read(alloc: Global, tree: &mut MemTree, given: &str) -> May<Txt, BadPath> {
+    tree.fail_read(number(given))?;
+    Ok(Txt::of(alloc, "")?)
+}
+
+fn fail_place(alloc: Global, tree: &mut MemTree, given: &str) -> May<Txt, BadPath> {
+    tree.fail_place(number(given))?;
+    Ok(Txt::of(alloc, "")?)
+}
+
+/// What a tree has at the path to which a text leads.
+pub(crate) fn read_at<T: Tree>(alloc: Global, tree: &mut T, text: &str) -> May<Txt, BadPath> {
+    let path = path(alloc, text)?;
+    Ok(read(alloc, tree, &path)?)
+}
+
+/// A file of one byte is placed at the path to which a text leads.
+pub(crate) fn place_at<T: Tree>(alloc: Global, tree: &mut T, text: &str) -> May<Txt, BadPath> {
+    let path = path(alloc, text)?;
+    Ok(place(alloc, tree, path)?)
+}
+
 /// Plans and puts tell nothing.
 fn step(alloc: Global, tree: &mut MemTree, step: &str) -> May<Txt, BadPath> {
     let (call, given) = word(step);
     match call {
-        "put" => put(alloc, tree, given)?,
-        "fail_read" => tree.fail_read(number(given))?,
-        "fail_place" => tree.fail_place(number(given))?,
-        "read" => return Ok(read(alloc, tree, &path(alloc, given)?)?),
-        "place" => return Ok(place(alloc, tree, path(alloc, given)?)?),
-        _ => return Ok(Txt::of(alloc, "no step;")?),
+        "put" => put(alloc, tree, given),
+        "fail_read" => fail_read(alloc, tree, given),
+        "fail_place" => fail_place(alloc, tree, given),
+        "read" => read_at(alloc, tree, given),
+        "place" => place_at(alloc, tree, given),
+        _ => Ok(Txt::of(alloc, "no step")?),
     }
-    Ok(Txt::of(alloc, "")?)
 }
 
 fn step_told(alloc: Global, tree: &mut MemTree, one: &str) -> Mem<Txt> {
     match step(alloc, tree, one) {
         Ok(told) => Ok(told),
-        Err(Miss::Because(_)) => Txt::of(alloc, "BadPath;"),
+        Err(Miss::Because(_)) => Txt::of(alloc, "BadPath"),
         Err(Miss::OutOfMemory) => Err(OutOfMemory),
     }
 }
@@ -85,7 +105,7 @@ fn step_told(alloc: Global, tree: &mut MemTree, one: &str) -> Mem<Txt> {
 fn steps(alloc: Global, tree: &mut MemTree, given: &str, told: &mut String) -> Mem<()> {
     for one in given.split(';') {
         let answer = step_told(alloc, tree, one)?;
-        told.push_str(answer.as_str())?;
+        tell(told, &answer)?;
     }
     Ok(())
 }
@@ -100,15 +120,15 @@ pub(crate) fn tree(alloc: Global, given: &str) -> Mem<Txt> {
 
 fn write(alloc: Global, sink: &mut MemSink, text: &str) -> Mem<Txt> {
     match sink.write(text.as_bytes()) {
-        Ok(count) => Ok(Txt::of_string(format!(in alloc; "{count};")?)),
-        Err(_) => Txt::of(alloc, "failed;"),
+        Ok(count) => Ok(Txt::of_string(format!(in alloc; "{count}")?)),
+        Err(_) => Txt::of(alloc, "failed"),
     }
 }
 
 fn writes(alloc: Global, sink: &mut MemSink, given: &str, told: &mut String) -> Mem<()> {
     for text in given.split(' ') {
         let answer = write(alloc, sink, text)?;
-        told.push_str(answer.as_str())?;
+        tell(told, &answer)?;
     }
     Ok(())
 }

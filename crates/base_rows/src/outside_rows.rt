@@ -1,17 +1,11 @@
 //! The outside on the file system, and the gate.
-use crate::outside_calls::{place, read};
+use crate::outside_calls::{place_at, read_at};
 use crate::path_calls::path;
-use bz_base::Txt;
+use bz_base::{BadPath, May, Txt};
 use bz_tree::{DirTree, Failed, Found, Gate, NoGate, Sink, StdSink, Tree};
 use std::fs;
 use std::fs::File;
 use std::test::Fail;
-
-/// What the real tree has at a path.
-fn shown(rt: &HostRuntime, text: &str) -> Result<Txt, Fail> {
-    let path = path(rt.alloc(), text)?;
-    Ok(read(rt.alloc(), &mut DirTree::here(rt), &path)?)
-}
 
 fn has_bytes(found: &Found, want: &[u8]) -> bool {
     match found {
@@ -21,49 +15,59 @@ fn has_bytes(found: &Found, want: &[u8]) -> bool {
 }
 
 /// Whether the real tree has these bytes at a path.
-fn is_read(rt: &HostRuntime, text: &str, want: &[u8]) -> Result<bool, Fail> {
-    let path = path(rt.alloc(), text)?;
+fn is_read(rt: &HostRuntime, text: &str, want: &[u8]) -> bool {
+    let Ok(path) = path(rt.alloc(), text) else {
+        return false;
+    };
     match DirTree::here(rt).read(rt.alloc(), &path) {
-        Ok(found) => Ok(has_bytes(&found, want)),
-        Err(_) => Ok(false),
+        Ok(found) => has_bytes(&found, want),
+        Err(_) => false,
+    }
+}
+
+fn is_told(told: May<Txt, BadPath>, want: &str) -> bool {
+    match told {
+        Ok(told) => told.as_str() == want,
+        Err(_) => false,
+    }
+}
+
+/// Whether the real tree tells this of a path.
+fn is_shown(rt: &HostRuntime, text: &str, want: &str) -> bool {
+    let told = read_at(rt.alloc(), &mut DirTree::here(rt), text);
+    is_told(told, want)
+}
+
+/// Whether the real tree tells this of the placing of a file of one byte.
+fn is_placed(rt: &HostRuntime, text: &str, want: &str) -> bool {
+    let told = place_at(rt.alloc(), &mut DirTree::here(rt), text);
+    is_told(told, want)
+}
+
+fn has_text(rt: &HostRuntime, name: &str, want: &str) -> bool {
+    match fs::read_to_string(rt, name) {
+        Ok(text) => text.as_str() == want,
+        Err(_) => false,
     }
 }
 
 #[test]
-fn reads_real_files(rt: HostRuntime) -> Result<(), Fail> {
-    fs::create_dir_all(&rt, "dir_tree_test/inner")?;
-    fs::write(&rt, "dir_tree_test/b", "text")?;
-    assert!(rt; is_read(&rt, "dir_tree_test/b", b"text")?);
-    for (place, want) in [
-        ("dir_tree_test", "lists b inner;"),
-        ("dir_tree_test/c", "absent;"),
-        ("dir_tree_test/b/c", "absent;"),
-    ] {
-        assert_eq!(rt; shown(&rt, place)?.as_str(), want);
-    }
-    fs::remove_dir_all(&rt, "dir_tree_test")?;
-    Ok(())
-}
-
-/// Whether the real tree takes a file of one byte.
-fn placed(rt: &HostRuntime, text: &str) -> Result<Txt, Fail> {
-    let path = path(rt.alloc(), text)?;
-    Ok(place(rt.alloc(), &mut DirTree::here(rt), path)?)
+fn reads_real_files(rt: HostRuntime) {
+    assert!(rt; fs::create_dir_all(&rt, "dir_tree_test/inner").is_ok());
+    assert!(rt; fs::write(&rt, "dir_tree_test/b", "text").is_ok());
+    assert!(rt; is_read(&rt, "dir_tree_test/b", b"text"));
+    assert!(rt; is_shown(&rt, "dir_tree_test", "lists b inner"));
+    assert!(rt; is_shown(&rt, "dir_tree_test/c", "absent"));
+    assert!(rt; is_shown(&rt, "dir_tree_test/b/c", "absent"));
+    assert!(rt; fs::remove_dir_all(&rt, "dir_tree_test").is_ok());
 }
 
 #[test]
-fn places_real_files(rt: HostRuntime) -> Result<(), Fail> {
-    assert_eq!(rt; placed(&rt, "dir_place_test/inner/b")?.as_str(), "placed;");
-    assert_eq!(rt;
-        fs::read_to_string(&rt, "dir_place_test/inner/b")?.as_str(),
-        "a"
-    );
-    assert_eq!(rt;
-        placed(&rt, "dir_place_test/inner/b/c")?.as_str(),
-        "refused;"
-    );
-    fs::remove_dir_all(&rt, "dir_place_test")?;
-    Ok(())
+fn places_real_files(rt: HostRuntime) {
+    assert!(rt; is_placed(&rt, "dir_place_test/inner/b", "placed"));
+    assert!(rt; has_text(&rt, "dir_place_test/inner/b", "a"));
+    assert!(rt; is_placed(&rt, "dir_place_test/inner/b/c", "refused"));
+    assert!(rt; fs::remove_dir_all(&rt, "dir_place_test").is_ok());
 }
 
 fn pass<G: Gate>(gate: &G) {
@@ -90,13 +94,10 @@ fn full_device_fails(rt: &HostRuntime) -> Result<bool, Fail> {
 
 #[test]
 fn writes_a_real_file(rt: HostRuntime) -> Result<(), Fail> {
-    fs::create_dir_all(&rt, "std_sink_test")?;
+    assert!(rt; fs::create_dir_all(&rt, "std_sink_test").is_ok());
     assert!(rt; is_taken(&rt, "std_sink_test/out")?);
-    assert_eq!(rt;
-        fs::read_to_string(&rt, "std_sink_test/out")?.as_str(),
-        "text"
-    );
+    assert!(rt; has_text(&rt, "std_sink_test/out", "text"));
     assert!(rt; full_device_fails(&rt)?);
-    fs::remove_dir_all(&rt, "std_sink_test")?;
+    assert!(rt; fs::remove_dir_all(&rt, "std_sink_test").is_ok());
     Ok(())
 }

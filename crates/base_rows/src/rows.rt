@@ -2,7 +2,7 @@
 use crate::calls::first_wrong;
 use crate::tables::{LABELS, MAPPINGS, ORDERED, PATHS, TEXTS, TREES, VALUES, VERSIONS};
 use crate::version_calls::orders;
-use bz_base::{Code, Mem, Seq};
+use bz_base::{Code, Mem, OutOfMemory, Seq, Txt};
 use std::alloc::Global;
 use std::process::Abort;
 use std::test::Fail;
@@ -43,24 +43,31 @@ fn digits(alloc: Global, front: &str, digit: &str) -> Mem<String> {
     Ok(text)
 }
 
-#[test]
-fn numbers_of_hundreds_of_digits_compare_by_number(rt: HostRuntime) -> Result<(), Fail> {
-    let alloc = rt.alloc();
+fn order_of_digits(alloc: Global) -> Mem<Txt> {
     let shorter = digits(alloc, "", "9")?;
     let longer = digits(alloc, "1", "0")?;
-    let order = orders(alloc, shorter.as_str(), longer.as_str())?;
+    orders(alloc, shorter.as_str(), longer.as_str())
+}
+
+#[test]
+fn numbers_of_hundreds_of_digits_compare_by_number(rt: HostRuntime) -> Result<(), Fail> {
+    let order = order_of_digits(rt.alloc())?;
     assert_eq!(rt; order.as_str(), "below above");
     Ok(())
 }
 
+fn two_numbers(alloc: Global) -> Mem<Seq<u64>> {
+    let mut numbers: Seq<u64> = Seq::new(alloc);
+    if numbers.push(7).is_err() || numbers.push(8).is_err() {
+        return Err(OutOfMemory);
+    }
+    Ok(Seq::of_vec(numbers.into_vec()))
+}
+
 #[test]
 fn keeps_what_is_pushed(rt: HostRuntime) -> Result<(), Fail> {
-    let mut numbers: Seq<u64> = Seq::new(rt.alloc());
-    assert!(rt; numbers.push(7).is_ok());
-    assert!(rt; numbers.push(8).is_ok());
+    let numbers = two_numbers(rt.alloc())?;
     assert_eq!(rt; numbers.items(), [7, 8].as_slice());
-    let numbers = Seq::of_vec(numbers.into_vec());
-    assert_eq!(rt; numbers.items().len(), 2);
     Ok(())
 }
 

@@ -47,13 +47,17 @@ pub(crate) fn kept(alloc: Global, text: &str) -> Mem<Txt> {
     }
 }
 
+fn order_words(alloc: Global, first: &Version, second: &Version) -> Mem<Txt> {
+    let there = order_word(first.order(second));
+    let back = order_word(second.order(first));
+    Ok(Txt::of_string(format!(in alloc; "{there} {back}")?))
+}
+
 /// The order of two versions, each beside the other.
 fn both_orders(alloc: Global, first: &str, second: &str) -> May<Txt, BadVersion> {
     let first = Version::parse(alloc, first)?;
     let second = Version::parse(alloc, second)?;
-    let there = order_word(first.order(&second));
-    let back = order_word(second.order(&first));
-    Ok(Txt::of_string(format!(in alloc; "{there} {back}")?))
+    Ok(order_words(alloc, &first, &second)?)
 }
 
 /// How a version stands to another, and the other to it.
