@@ -53,10 +53,11 @@ abbrev pub closure_of : Function → Closure
 closure_of function =
     record { file = function.file; function = function.function; around = function.around }
 
--- what a call of a value calls: a function that a file defines; a method of a host's object, or,
--- with no name, the object itself; a function or a method of the library; or nothing
+-- what a call of a value calls: a function that a file defines, with its defaults; a method of a
+-- host's object, or, with no name, the object itself; a function or a method of the library; or
+-- nothing
 pub data Callee : Type 0 where
-  Defined : Closure → Callee
+  Defined : Closure → (defaults : List Val) → Callee
   OfHost : (object : ℕ) (method : List ℕ) → Callee
   OfLibrary : Callee
   Nothing : Callee
@@ -84,7 +85,8 @@ method_of heap (val.Int number) method = OfLibrary
 method_of heap (val.Cell number) method = method_in number (cell_at heap (val.Cell number)) method
 
 abbrev pub callee_in : HeapState → ℕ → Option Cell → Callee
-callee_in heap number (Some (cell.Function function)) = Defined (closure_of function)
+callee_in heap number (Some (cell.Function function)) =
+    Defined (closure_of function) function.defaults
 callee_in heap number (Some (cell.Host kind fields)) = OfHost number []
 callee_in heap number (Some (cell.Bound receiver method)) = method_of heap receiver method
 callee_in heap number (Some (cell.Builtin name)) = OfLibrary
@@ -107,13 +109,20 @@ callee_of heap (val.Cell number) = callee_in heap number (cell_at heap (val.Cell
 
 -- the closure that is called, where a file defines it
 abbrev pub closure_called : Callee → Option Closure
-closure_called (Defined closure) = Some closure
+closure_called (Defined closure defaults) = Some closure
 closure_called (OfHost object method) = None
 closure_called OfLibrary = None
 closure_called Nothing = None
 
+-- and its defaults
+abbrev pub defaults_called : Callee → List Val
+defaults_called (Defined closure defaults) = defaults
+defaults_called (OfHost object method) = []
+defaults_called OfLibrary = []
+defaults_called Nothing = []
+
 abbrev pub calls_library : Callee → Bool
-calls_library (Defined closure) = false
+calls_library (Defined closure defaults) = false
 calls_library (OfHost object method) = false
 calls_library OfLibrary = true
 calls_library Nothing = false

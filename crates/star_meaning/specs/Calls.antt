@@ -1,8 +1,8 @@
 -- What calls of functions and runs of files mean: the Starlark specification, "Functions" and
 -- "Module execution". At most 64 calls run at once, and no function is called while a call of it
 -- runs.
-use Rattle.std.specs.Prelude.{ℕ, zero, suc, ◌==◌, ◌&&◌, Bool, true, false, List, [], ◌∷◌, length, Option, Some}
-use Rattle.std.specs.Prelude.{None, slice_get, if◌then◌else◌}
+use Rattle.std.specs.Prelude.{ℕ, zero, suc, ◌==◌, ◌&&◌, Bool, true, false, List, [], ◌∷◌, length, map}
+use Rattle.std.specs.Prelude.{Option, Some, None, slice_get, if◌then◌else◌}
 use Rattle.std.specs.List.{list_any}
 use Rattle.star_core.specs.Hosts.{HostCall, Meaning, Method}
 use Rattle.star_core.specs.Tables.{Table}
@@ -10,13 +10,16 @@ use Rattle.star_core.specs.declared.faults.Fault.TheVariants as fault
 use Rattle.star_core.specs.declared.values.Args.{Args}
 use Rattle.star_core.specs.declared.values.Val.{Val}
 use Rattle.star_core.specs.declared.values.Val.TheVariants as val
+use Rattle.star_meaning.specs.Arguments.{by_position}
 use Rattle.star_meaning.specs.Attributes.{Callee, Defined, Nothing, OfHost, OfLibrary, callee_of}
-use Rattle.star_meaning.specs.Expressions.{Program, Setting, meaning}
+use Rattle.star_meaning.specs.Expressions.{Program, Setting, functions_made, meaning}
 use Rattle.star_meaning.specs.Libraries.{Rows}
-use Rattle.star_meaning.specs.Results.{Done, Gives, M, Outcome, Res, Stops, asked, fail, lift}
+use Rattle.star_meaning.specs.Loops.{Flow, Left, Next}
+use Rattle.star_meaning.specs.Parameters.{bound, formal_of}
+use Rattle.star_meaning.specs.Results.{Done, Gives, M, Outcome, Res, Stops, ◌>>=◌, asked, fail, lift}
 use Rattle.star_meaning.specs.Results.{refuse}
-use Rattle.star_meaning.specs.Statements.{Flow, Left, Next, body_meaning}
-use Rattle.star_meaning.specs.Worlds.{World, on_heap, opened}
+use Rattle.star_meaning.specs.Statements.{body_meaning}
+use Rattle.star_meaning.specs.Worlds.{World, line_of, on_heap, opened}
 use Rattle.star_meaning.specs.declared.reasons.Closure.{Closure}
 use Rattle.star_meaning.specs.declared.reasons.Exit.{Exit}
 use Rattle.star_meaning.specs.declared.reasons.Exit.TheVariants as exit
@@ -72,8 +75,8 @@ running_of function = record { file = function.file; function = function.functio
 abbrev pub Run : Type 0 → Type 0
 Run H = Running → ℕ → Program → FnCode → List Val → M H Val
 
--- as many arguments as parameters; then no call of the function may be running
-abbrev pub call_bound : {H : Type 0}
+-- no call of the function may be running
+abbrev pub run_if : {H : Type 0}
     → Run H
     → List Running
     → Closure
@@ -81,38 +84,53 @@ abbrev pub call_bound : {H : Type 0}
     → FnCode
     → List Val
     → M H Val
-call_bound run running f program code values =
-    if length values == length code.params
-    then (if is_running (running_of f) running
+run_if run running f program code values =
+    if is_running (running_of f) running
     then fail fault.Recursion
-    else run (running_of f) f.around program code values)
-    else fail fault.Arity
+    else run (running_of f) f.around program code values
+
+-- the arguments are bound to the parameters first
+abbrev pub call_bound : {H : Type 0}
+    → Rows
+    → Run H
+    → List Running
+    → Closure
+    → List Val
+    → Program
+    → FnCode
+    → Args
+    → M H Val
+call_bound library run running f defaults program code args = do
+  values ← lift (on_heap (bound library (map formal_of code.params) defaults args))
+  run_if run running f program code values
 
 abbrev pub call_code : {H : Type 0}
+    → Rows
     → Run H
     → List Running
     → Closure
+    → List Val
     → Program
     → Option FnCode
-    → List Val
+    → Args
     → M H Val
-call_code run running f program None values = fail fault.Kind
-call_code run running f program (Some code) values = call_bound run running f program code values
+call_code library run running f defaults program None args = fail fault.Kind
+call_code library run running f defaults program (Some code) args =
+    call_bound library run running f defaults program code args
 
 abbrev pub call_in : {H : Type 0}
+    → Rows
     → Run H
     → List Running
     → Closure
-    → Option Program
     → List Val
+    → Option Program
+    → Args
     → M H Val
-call_in run running f None values = fail fault.Kind
-call_in run running f (Some program) values =
-    call_code run running f program (slice_get program.tree.functions f.function) values
-
--- arguments by position
-abbrev pub by_position : List Val → Args
-by_position values = record { positional = values; named = [] }
+call_in library run running f defaults None args = fail fault.Kind
+call_in library run running f defaults (Some program) args =
+    call_code library run running f defaults program
+    (slice_get program.tree.functions f.function) args
 
 abbrev pub library_if : {H : Type 0} → Bool → M H Val → M H Val
 library_if true plain = refuse reason.Unbuilt
@@ -124,7 +142,18 @@ library_call library f args =
     λ world host.
     library_if (library.calls_back f args world.heap) (lift (on_heap (library.call f args))) world host
 
--- a call of what was found, with values by position
+-- a call of a host's object, by the statement that runs
+abbrev pub host_call : {H : Type 0}
+    → Meaning H HostCall
+    → Table
+    → (object : ℕ) (method : List ℕ)
+    → Args
+    → M H Val
+host_call does answers object method args =
+    λ world host.
+    asked does answers (Method object method args (line_of world.place)) world host
+
+-- a call of what was found
 abbrev pub call_callee : {H : Type 0}
     → Meaning H HostCall
     → Table
@@ -134,15 +163,15 @@ abbrev pub call_callee : {H : Type 0}
     → List Running
     → Val
     → Callee
-    → List Val
+    → Args
     → M H Val
-call_callee does answers library programs run running of (Defined f) values =
-    call_in run running f (slice_get programs f.file) values
-call_callee does answers library programs run running of (OfHost object method) values =
-    asked does answers (Method object method (by_position values))
-call_callee does answers library programs run running of OfLibrary values =
-    library_call library of (by_position values)
-call_callee does answers library programs run running of Nothing values = fail fault.Kind
+call_callee does answers library programs run running of (Defined f defaults) args =
+    call_in library run running f defaults (slice_get programs f.file) args
+call_callee does answers library programs run running of (OfHost object method) args =
+    host_call does answers object method args
+call_callee does answers library programs run running of OfLibrary args =
+    library_call library of args
+call_callee does answers library programs run running of Nothing args = fail fault.Kind
 
 abbrev pub call_value : {H : Type 0}
     → Meaning H HostCall
@@ -152,11 +181,45 @@ abbrev pub call_value : {H : Type 0}
     → Run H
     → List Running
     → Val
-    → List Val
+    → Args
     → M H Val
-call_value does answers library programs run running f values =
+call_value does answers library programs run running f args =
     λ world host.
-    call_callee does answers library programs run running f (callee_of world.heap f) values world host
+    call_callee does answers library programs run running f (callee_of world.heap f) args world host
+
+abbrev pub bare_setting : {H : Type 0}
+    → Meaning H HostCall
+    → Table
+    → Rows
+    → ℕ
+    → Program
+    → (Val → Args → M H Val)
+    → Setting H
+bare_setting does answers library file program call =
+    record {
+      does = does;
+      answers = answers;
+      library = library;
+      file = file;
+      program = program;
+      call = call;
+      make = λ function. fail fault.Kind;
+    }
+
+-- what stands round code of a file, in which functions are made as the file defines them
+abbrev pub setting_with : {H : Type 0}
+    → Meaning H HostCall
+    → Table
+    → Rows
+    → ℕ
+    → Program
+    → (Val → Args → M H Val)
+    → Setting H
+setting_with does answers library file program call =
+    record (bare_setting does answers library file program call) {
+      make = functions_made (length program.tree.functions) 0
+          (bare_setting does answers library file program call);
+    }
 
 -- a call of a value where so many calls more may run besides those that are running
 unfoldable pub calls : {H : Type 0}
@@ -167,20 +230,14 @@ unfoldable pub calls : {H : Type 0}
     → ℕ
     → List Running
     → Val
-    → List Val
+    → Args
     → M H Val
 calls does answers library programs zero running =
     call_value does answers library programs (λ f around program code values. fail fault.Depth) running
 calls does answers library programs (suc depth) running =
     call_value does answers library programs (λ f around program code values.
-    run_body (record {
-      does = does;
-      answers = answers;
-      library = library;
-      file = f.file;
-      program = program;
-      call = calls does answers library programs depth (f ∷ running);
-    }) around code values) running
+    run_body (setting_with does answers library f.file program
+    (calls does answers library programs depth (f ∷ running))) around code values) running
 
 -- what stands round the statements of a file where so many calls more may run
 abbrev pub setting : {H : Type 0}
@@ -194,14 +251,8 @@ abbrev pub setting : {H : Type 0}
     → List Running
     → Setting H
 setting does answers library programs file program depth running =
-    record {
-      does = does;
-      answers = answers;
-      library = library;
-      file = file;
-      program = program;
-      call = calls does answers library programs depth running;
-    }
+    setting_with does answers library file program
+    (calls does answers library programs depth running)
 
 abbrev pub ended : {H : Type 0} → Res H Val → Outcome H
 ended (Gives value world host) = Done value world host
@@ -234,4 +285,4 @@ abbrev pub call_meaning : {H : Type 0}
     → H
     → Outcome H
 call_meaning does answers library programs f values world host =
-    ended (calls does answers library programs MOST_CALLS [] f values world host)
+    ended (calls does answers library programs MOST_CALLS [] f (by_position values) world host)

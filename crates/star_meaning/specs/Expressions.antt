@@ -1,30 +1,37 @@
 -- What expressions mean, construct by construct: the Starlark specification, "Expressions". A node
 -- costs a step when it begins; its operands are evaluated from left to right.
-use Rattle.std.specs.Prelude.{ℕ, Bool, length, ◌==◌, Result, true, false, List, [], ◌∷◌, map, cond, Option, Some, None}
-use Rattle.std.specs.Prelude.{option_map, Ok, Err, bytes_eq, if◌then◌else◌, slice_get}
+use Rattle.std.specs.Prelude.{ℕ, zero, suc, nat_lt, Bool, length, true, false, List, [], ◌∷◌}
+use Rattle.std.specs.Prelude.{◌++◌, map, cond, Option, Some, None, option_map, Ok, Err}
+use Rattle.std.specs.Prelude.{if◌then◌else◌, slice_get}
 use Rattle.star_core.specs.Conditions.{printed_name}
 use Rattle.star_core.specs.Dicts.{Entry, entry_of}
-use Rattle.star_core.specs.Heaps.{Change, HeapState, cell_at, cell_number, made}
+use Rattle.star_core.specs.Heaps.{Change, HeapState, given, made, sum_for, taken}
 use Rattle.star_core.specs.Hosts.{Field, HostCall, Meaning}
 use Rattle.star_core.specs.Tables.{Table}
+use Rattle.star_core.specs.declared.cells.Cell.{Cell}
 use Rattle.star_core.specs.declared.cells.Cell.TheVariants as cell
 use Rattle.star_core.specs.declared.faults.Fault.TheVariants as fault
+use Rattle.star_core.specs.declared.values.Args.{Args}
 use Rattle.star_core.specs.declared.values.Val.{Val}
 use Rattle.star_core.specs.declared.values.Val.TheVariants as val
 use Rattle.star_library.specs.Calls.{and_then}
+use Rattle.star_library.specs.Kinds.{items_of}
+use Rattle.star_meaning.specs.Arguments.{checked, gathered, keywords_of}
 use Rattle.star_meaning.specs.Attributes.{attribute_of}
 use Rattle.star_meaning.specs.Libraries.{Rows}
-use Rattle.star_meaning.specs.Results.{M, ◌>>=◌, asked, change_to, each, fail, lift, pure, refuse}
-use Rattle.star_meaning.specs.Worlds.{Work, World, assigned, on_heap, of_result, tick, truth}
+use Rattle.star_meaning.specs.Loops.{clause_loop}
+use Rattle.star_meaning.specs.Parameters.{defaults_of}
+use Rattle.star_meaning.specs.Results.{Gives, M, Res, Stops, ◌>>=◌, asked, change_to, each, fail, lift}
+use Rattle.star_meaning.specs.Results.{pure}
+use Rattle.star_meaning.specs.Worlds.{Work, World, assigned, on_heap, of_result, opened, tick, truth}
 use Rattle.star_meaning.specs.Worlds.{unpacked, variable}
 use Rattle.star_meaning.specs.declared.reasons.Attribute.{Attribute}
 use Rattle.star_meaning.specs.declared.reasons.Attribute.TheVariants as attribute
-use Rattle.star_meaning.specs.declared.reasons.Reason.TheVariants as reason
+use Rattle.star_meaning.specs.declared.arguments.Way.{Way}
+use Rattle.star_meaning.specs.declared.arguments.Way.TheVariants as way
 use Rattle.star_trees.specs.Folds.{ExprValues, fold_expr, fold_target}
 use Rattle.star_trees.specs.declared.files.File.{File}
 use Rattle.star_trees.specs.declared.files.FnCode.{FnCode}
-use Rattle.star_trees.specs.declared.files.Param.{Param}
-use Rattle.star_trees.specs.declared.files.Param.TheVariants as param
 use Rattle.star_trees.specs.declared.trees.Arg.TheOpen.{Arg-F, Clause-F, Expr-F, ExprPair-F}
 use Rattle.star_trees.specs.declared.trees.Arg.TheOpen.{Target-F}
 use Rattle.star_trees.specs.declared.trees.BinOp.{BinOp}
@@ -40,14 +47,15 @@ pub record Program : Type 0 where
   pub literals : List Entry
 
 -- what stands round an expression: the host, the answers, the library, the number of the file and
--- the file, and what a call of a value does
+-- the file, what a call of a value does, and what making one of the file's functions does
 pub record Setting (H : Type 0) : Type 0 where
   pub does : Meaning H HostCall
   pub answers : Table
   pub library : Rows
   pub file : ℕ
   pub program : Program
-  pub call : Val → List Val → M H Val
+  pub call : Val → Args → M H Val
+  pub make : ℕ → M H Val
 
 -- An expression has a value. As the place of an augmented assignment it is read, and what is made
 -- of its value takes its place, unless that was changed where it lies.
@@ -63,8 +71,15 @@ TargetMeaning H = Setting H → Val → M H (Unit {0})
 abbrev pub PairMeaning : Type 0 → Type 0
 PairMeaning H = Setting H → Val → M H (Unit {0})
 
-abbrev pub ArgMeaning : Type 0 → Type 0
-ArgMeaning H = Setting H → M H Val
+-- an argument has a value, and a way in which it is given
+pub record ArgMeaning (H : Type 0) : Type 0 where
+  pub way : Way
+  pub value : Setting H → M H Val
+
+-- a comprehension's clause: a loop over an operand's items, or a test
+pub data ClauseMeaning (H : Type 0) : Type 0 where
+  Each : TargetMeaning H → (Setting H → M H Val) → ClauseMeaning H
+  Where : (Setting H → M H Val) → ClauseMeaning H
 
 abbrev pub in_setting : {H A : Type 0} → Setting H → (Setting H → M H A) → M H A
 in_setting s meaning = meaning s
@@ -189,42 +204,78 @@ put_each (first ∷ more) dict = do
   _ ← first dict
   put_each more dict
 
--- whether each parameter is required
-abbrev pub is_required : Param → Bool
-is_required (param.Required name) = true
-is_required (param.Optional name default) = false
-is_required param.Bare = false
-is_required (param.Rest name) = false
-is_required (param.Keywords name) = false
-
-unfoldable pub all_required : List Param → Bool
-all_required [] = true
-all_required (first ∷ params) = if is_required first then all_required params else false
-
--- a function of a file that lies in the scope in which code runs
-abbrev pub closure : ℕ → ℕ → List ℕ → World → Work Val
-closure file function name world =
+-- a function of a file that lies in the scope in which code runs, with the values of its defaults
+abbrev pub closure : ℕ → ℕ → List ℕ → List Val → World → Work Val
+closure file function name defaults world =
     on_heap (made (cell.Function (record {
       file = file;
       function = function;
       name = name;
-      defaults = [];
+      defaults = defaults;
       around = world.scope;
     }))) world
 
-abbrev pub made_if : {H : Type 0} → ℕ → ℕ → List ℕ → Bool → M H Val
-made_if file function name true = lift (closure file function name)
-made_if file function name false = refuse reason.Unbuilt
+-- an iterable operand, and a dictionary whose keys are strings, before they are spread
+abbrev pub items_checked : Val → World → Work (Unit {0})
+items_checked value world = of_result (checked (items_of world.heap value)) world
 
-abbrev pub made_of : {H : Type 0} → ℕ → ℕ → Option FnCode → M H Val
-made_of file function None = fail fault.Kind
-made_of file function (Some code) =
-    made_if file function (printed_name code.name) (all_required code.params)
+abbrev pub keywords_checked : Val → World → Work (Unit {0})
+keywords_checked value world = of_result (checked (keywords_of world.heap value)) world
 
--- a `def` or a `lambda` makes a function of the scope in which it stands
-abbrev pub function_made : {H : Type 0} → ℕ → Setting H → M H Val
-function_made function s =
-    made_of s.file function (slice_get s.program.tree.functions function)
+-- the arguments of a call
+abbrev pub args_in : List Way → List Val → World → Work Args
+args_in ways values world = of_result (gathered world.heap ways values) world
+
+-- an item is put behind those of a list
+abbrev pub put_answered : Option ℕ → HeapState → Change (Unit {0})
+put_answered None heap = Err fault.Size
+put_answered (Some sum) heap = Ok (tt, heap)
+
+abbrev pub content_put : Val → Cell → ℕ → HeapState → Change (Unit {0})
+content_put value content added heap =
+    put_answered (sum_for content added heap) (given value content added heap)
+
+abbrev pub item_put : Val → Val → Cell → HeapState → Change (Unit {0})
+item_put list item (cell.List items) = content_put list (cell.List (items ++ item ∷ [])) 16
+item_put list item content = λ heap. Err fault.Kind
+
+unfoldable pub appended : Val → Val → HeapState → Change (Unit {0})
+appended list item = and_then (taken list) (item_put list item)
+
+-- what a comprehension does inside its clauses
+abbrev pub nested : {H : Type 0}
+    → Setting H
+    → List (ClauseMeaning H)
+    → M H (Unit {0})
+    → M H (Unit {0})
+nested s [] inner = inner
+nested s (Each to over ∷ clauses) inner = do
+  value ← over s
+  clause_loop value (to s) (nested s clauses inner)
+nested s (Where test ∷ clauses) inner = do
+  value ← test s
+  counts ← lift (truth value)
+  cond counts (nested s clauses inner) (pure tt)
+
+abbrev pub scope_left : {H : Type 0} → ℕ → Res H (Unit {0}) → Res H (Unit {0})
+scope_left scope (Gives done world host) = Gives done (record world { scope = scope }) host
+scope_left scope (Stops outcome) = Stops outcome
+
+-- in a scope of its own, behind which the one round it is there again
+abbrev pub in_new_scope : {H : Type 0} → M H (Unit {0}) → M H (Unit {0})
+in_new_scope work = λ world host. scope_left world.scope (work (opened world.scope [] world) host)
+
+-- a comprehension: the operand of its first clause lies outside its scope
+abbrev pub comprehension : {H : Type 0}
+    → Setting H
+    → List (ClauseMeaning H)
+    → M H (Unit {0})
+    → M H (Unit {0})
+comprehension s [] inner = fail fault.Kind
+comprehension s (Where test ∷ clauses) inner = fail fault.Kind
+comprehension s (Each to over ∷ clauses) inner = do
+  value ← over s
+  in_new_scope (clause_loop value (to s) (nested s clauses inner))
 
 -- an attribute, where it was found
 abbrev pub attribute_read : {H : Type 0} → Attribute → Val → List ℕ → Setting H → M H Val
@@ -239,7 +290,7 @@ attribute_meaning value name s =
 
 -- the meaning of an expression by those of its parts
 abbrev pub expr_step : {H : Type 0}
-    → Expr-F (ArgMeaning H) (Unit {0}) (ExprMeaning H) (TargetMeaning H) (PairMeaning H)
+    → Expr-F (ArgMeaning H) (ClauseMeaning H) (ExprMeaning H) (TargetMeaning H) (PairMeaning H)
     → ExprMeaning H
 expr_step (Expr-F.Expr::Name var) = name_meaning var
 expr_step (Expr-F.Int number) = only_value (λ s. node (pure (val.Int number)))
@@ -255,8 +306,19 @@ expr_step (Expr-F.Dict pairs) = only_value (λ s. node (do
   dict ← lift (on_heap (made (cell.Dict [])))
   _ ← put_each (map (λ pair. pair s) pairs) dict
   pure dict))
-expr_step (Expr-F.ListComp item clauses) = only_value (λ s. node (refuse reason.Unbuilt))
-expr_step (Expr-F.DictComp key value clauses) = only_value (λ s. node (refuse reason.Unbuilt))
+expr_step (Expr-F.ListComp item clauses) = only_value (λ s. node (do
+  list ← lift (on_heap (made (cell.List [])))
+  _ ← comprehension s clauses (do
+    x ← item.value s
+    lift (on_heap (appended list x)))
+  pure list))
+expr_step (Expr-F.DictComp key value clauses) = only_value (λ s. node (do
+  dict ← lift (on_heap (made (cell.Dict [])))
+  _ ← comprehension s clauses (do
+    k ← key.value s
+    x ← value.value s
+    lift (on_heap (s.library.set_index dict k x)))
+  pure dict))
 expr_step (Expr-F.Unary op of) = only_value (λ s. node (do
   x ← of.value s
   lift (on_heap (s.library.unary op x))))
@@ -266,7 +328,7 @@ expr_step (Expr-F.Cond test chosen other) = only_value (λ s. node (do
   x ← test.value s
   counts ← lift (truth x)
   cond counts (chosen.value s) (other.value s)))
-expr_step (Expr-F.Lambda function) = only_value (λ s. node (function_made function s))
+expr_step (Expr-F.Lambda function) = only_value (λ s. node (s.make function))
 expr_step (Expr-F.Attr of name) = only_value (λ s. node (do
   x ← of.value s
   attribute_meaning x name s))
@@ -279,20 +341,35 @@ expr_step (Expr-F.Slice of begin end step) = only_value (λ s. node (do
   lift (on_heap (s.library.slice x first last by))))
 expr_step (Expr-F.Call function args) = only_value (λ s. node (do
   f ← function.value s
-  values ← each (map (λ arg. arg s) args)
-  s.call f values))
+  values ← each (map (λ arg. arg.value s) args)
+  given ← lift (args_in (map (λ arg. arg.way) args) values)
+  s.call f given))
 
--- an argument has a value
+-- an argument; an operand that is spread is tested when it is evaluated
 abbrev pub arg_step : {H : Type 0}
-    → Arg-F (ArgMeaning H) (Unit {0}) (ExprMeaning H) (TargetMeaning H) (PairMeaning H)
+    → Arg-F (ArgMeaning H) (ClauseMeaning H) (ExprMeaning H) (TargetMeaning H) (PairMeaning H)
     → ArgMeaning H
-arg_step (Arg-F.Positional value) s = value.value s
-arg_step (Arg-F.Named name value) s = refuse reason.Unbuilt
-arg_step (Arg-F.Star value) s = refuse reason.Unbuilt
-arg_step (Arg-F.DoubleStar value) s = refuse reason.Unbuilt
+arg_step (Arg-F.Positional value) = record { way = way.Positional; value = value.value }
+arg_step (Arg-F.Named name value) = record { way = way.Named name; value = value.value }
+arg_step (Arg-F.Star value) =
+    record {
+      way = way.Star;
+      value = λ s. do
+        x ← value.value s
+        _ ← lift (items_checked x)
+        pure x;
+    }
+arg_step (Arg-F.DoubleStar value) =
+    record {
+      way = way.DoubleStar;
+      value = λ s. do
+        x ← value.value s
+        _ ← lift (keywords_checked x)
+        pure x;
+    }
 
 abbrev pub pair_step : {H : Type 0}
-    → ExprPair-F (ArgMeaning H) (Unit {0}) (ExprMeaning H) (TargetMeaning H) (PairMeaning H)
+    → ExprPair-F (ArgMeaning H) (ClauseMeaning H) (ExprMeaning H) (TargetMeaning H) (PairMeaning H)
     → PairMeaning H
 pair_step pair s dict = do
   key ← pair.key.value s
@@ -309,7 +386,7 @@ assign_each (target ∷ targets) (value ∷ values) = do
   assign_each targets values
 
 abbrev pub target_step : {H : Type 0}
-    → Target-F (ArgMeaning H) (Unit {0}) (ExprMeaning H) (TargetMeaning H) (PairMeaning H)
+    → Target-F (ArgMeaning H) (ClauseMeaning H) (ExprMeaning H) (TargetMeaning H) (PairMeaning H)
     → TargetMeaning H
 target_step (Target-F.Target::Name var) s value = change_to (assigned var.scope var.slot value)
 target_step (Target-F.Target::Index of at) s value = do
@@ -321,12 +398,13 @@ target_step (Target-F.Many targets) s value = do
   assign_each (map (λ target. target s) targets) values
 
 abbrev pub clause_step : {H : Type 0}
-    → Clause-F (ArgMeaning H) (Unit {0}) (ExprMeaning H) (TargetMeaning H) (PairMeaning H)
-    → Unit {0}
-clause_step clause = tt
+    → Clause-F (ArgMeaning H) (ClauseMeaning H) (ExprMeaning H) (TargetMeaning H) (PairMeaning H)
+    → ClauseMeaning H
+clause_step (Clause-F.For to over) = Each to over.value
+clause_step (Clause-F.If test) = Where test.value
 
 abbrev pub meanings : {H : Type 0}
-    → ExprValues (ArgMeaning H) (Unit {0}) (ExprMeaning H) (TargetMeaning H) (PairMeaning H)
+    → ExprValues (ArgMeaning H) (ClauseMeaning H) (ExprMeaning H) (TargetMeaning H) (PairMeaning H)
 meanings =
     record {
       arg = arg_step;
@@ -343,3 +421,21 @@ meaning {H} = fold_expr (meanings {H = H})
 -- what assigning to a target means
 abbrev pub target_meaning : {H : Type 0} → Target → TargetMeaning H
 target_meaning {H} = fold_target (meanings {H = H})
+
+-- a function of the file with the values of its defaults
+abbrev pub made_with : {H : Type 0} → ℕ → Option FnCode → Setting H → M H Val
+made_with function None s = fail fault.Kind
+made_with function (Some code) s = do
+  defaults ← each (map (λ default. default.value s) (map meaning (defaults_of code.params)))
+  lift (closure s.file function (printed_name code.name) defaults)
+
+-- A `def` or a `lambda` makes a function of the scope in which it stands, with its defaults, which
+-- are evaluated then. Functions stand in the order in which they begin in the text, so that those
+-- that a function's defaults make stand behind it: that bounds how deep defaults nest in defaults,
+-- by the number of functions. A function that stands before is refused.
+unfoldable pub functions_made : {H : Type 0} → ℕ → ℕ → Setting H → ℕ → M H Val
+functions_made zero least s function = fail fault.Kind
+functions_made (suc count) least s function =
+    if nat_lt function least then fail fault.Kind
+    else made_with function (slice_get s.program.tree.functions function)
+    (record s { make = functions_made count (suc function) s })

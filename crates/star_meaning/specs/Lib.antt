@@ -1,7 +1,10 @@
-pub mod Libraries
-pub mod Worlds
-pub mod Results
+pub mod Arguments
 pub mod Attributes
-pub mod Expressions
-pub mod Statements
 pub mod Calls
+pub mod Expressions
+pub mod Libraries
+pub mod Loops
+pub mod Parameters
+pub mod Results
+pub mod Statements
+pub mod Worlds

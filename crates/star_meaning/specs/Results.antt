@@ -1,10 +1,11 @@
 -- How the parts of an evaluation are put together: each goes on with the world and the host that
 -- the one before it leaves, and where one stops, all stops.
-use Rattle.std.specs.Prelude.{ℕ, List, [], ◌∷◌, Option, Some, None}
+use Rattle.std.specs.Prelude.{ℕ, List, [], ◌∷◌, Option}
 use Rattle.bz_base.specs.declared.refusals.Refusal.{Refusal}
-use Rattle.star_core.specs.Hosts.{Asks, HostCall, Meaning, Refuses, Reply, Returns}
+use Rattle.star_core.specs.Hosts.{Asks, HostCall, Lacks, Meaning, Refuses, Reply, Returns}
 use Rattle.star_core.specs.Tables.{Table}
 use Rattle.star_core.specs.declared.faults.Fault.{Fault}
+use Rattle.star_core.specs.declared.faults.Fault.TheVariants as fault
 use Rattle.star_core.specs.declared.questions.Question.{Question}
 use Rattle.star_core.specs.declared.values.Val.{Val}
 use Rattle.star_meaning.specs.Worlds.{Fails, Work, Works, World}
@@ -72,6 +73,7 @@ replied (Returns value heap host) world = Gives value (record world { heap = hea
 replied (Refuses refusal) world =
     Stops (RefusedByHost refusal world.place world.count)
 replied (Asks question) world = Stops (Unanswered question)
+replied Lacks world = Stops (Refused (reason.Fault fault.Attr) world.place world.count)
 
 -- a call of a host
 abbrev pub asked : {H : Type 0} → Meaning H HostCall → Table → HostCall → M H Val

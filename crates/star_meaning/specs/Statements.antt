@@ -1,48 +1,29 @@
 -- What statements mean: the Starlark specification, "Statements". A statement costs a step when it
 -- begins, and each turn of a loop one, before its variables are bound.
-use Rattle.std.specs.Prelude.{ℕ, Bool, true, false, List, [], ◌∷◌, map, cond, Option, Some, None}
+use Rattle.std.specs.Prelude.{List, [], ◌∷◌, map, cond, Option, Some, None}
 use Rattle.std.specs.Prelude.{option_map}
-use Rattle.star_core.specs.Heaps.{Change, HeapState, cell_at, unwalked, walked}
+use Rattle.star_core.specs.Heaps.{Change, HeapState, cell_at}
 use Rattle.star_core.specs.declared.cells.Cell.{Cell}
 use Rattle.star_core.specs.declared.cells.Cell.TheVariants as cell
-use Rattle.star_core.specs.declared.faults.Fault.TheVariants as fault
 use Rattle.star_core.specs.declared.values.Val.{Val}
-use Rattle.star_core.specs.declared.values.Val.TheVariants as val
 use Rattle.star_library.specs.Calls.{and_then, give_back}
-use Rattle.star_meaning.specs.Expressions.{ExprMeaning, Setting, bound_meaning, function_made}
-use Rattle.star_meaning.specs.Expressions.{in_setting, meaning, target_meaning}
+use Rattle.star_meaning.specs.Expressions.{Setting, bound_meaning, in_setting, meaning}
+use Rattle.star_meaning.specs.Expressions.{target_meaning}
 use Rattle.star_meaning.specs.Libraries.{Rows}
+use Rattle.star_meaning.specs.Loops.{Flow, Left, Next, go_on, loop, then_next}
 use Rattle.star_meaning.specs.Results.{M, ◌>>=◌, change_to, lift, pure}
-use Rattle.star_meaning.specs.Worlds.{World, assigned, begin_at, items_in, on_heap, truth}
-use Rattle.star_meaning.specs.declared.reasons.Exit.{Exit}
+use Rattle.star_meaning.specs.Worlds.{assigned, begin_at, on_heap, truth}
 use Rattle.star_meaning.specs.declared.reasons.Exit.TheVariants as exit
 use Rattle.star_meaning.specs.declared.reasons.InPlace.{InPlace}
 use Rattle.star_meaning.specs.declared.reasons.InPlace.TheVariants as way
-use Rattle.star_meaning.specs.declared.reasons.Place.{Place}
 use Rattle.star_trees.specs.Folds.{StmtValues, fold_stmt}
 use Rattle.star_trees.specs.declared.trees.BinOp.{BinOp}
 use Rattle.star_trees.specs.declared.trees.BinOp.TheVariants as op
-use Rattle.star_trees.specs.declared.trees.Expr.{Expr}
 use Rattle.star_trees.specs.declared.trees.Stmt.{Stmt}
 use Rattle.star_trees.specs.declared.trees.StmtKind.TheOpen.{Stmt-F, StmtKind-F}
 
--- whether the next statement follows, or how the loop or the function is left
-pub data Flow : Type 0 where
-  Next : Flow
-  Left : Exit → Flow
-
 abbrev pub StmtMeaning : Type 0 → Type 0
 StmtMeaning H = Setting H → M H Flow
-
--- what is done gives no value, and the next statement follows
-abbrev pub then_next : {H A : Type 0} → M H A → M H Flow
-then_next work = do
-  _ ← work
-  pure Next
-
-abbrev pub go_on : {H : Type 0} → Flow → M H Flow → M H Flow
-go_on Next next = next
-go_on (Left exit) next = pure (Left exit)
 
 -- statements one after another
 abbrev pub in_turn : {H : Type 0} → List (M H Flow) → M H Flow
@@ -50,44 +31,6 @@ in_turn [] = pure Next
 in_turn (first ∷ more) = do
   flow ← first
   go_on flow (in_turn more)
-
--- whether a loop's next turn follows
-abbrev pub turn_on : {H : Type 0} → Flow → M H Flow → M H Flow
-turn_on Next next = next
-turn_on (Left exit.Continue) next = next
-turn_on (Left exit.Break) next = pure Next
-turn_on (Left (exit.Return value)) next = pure (Left (exit.Return value))
-
--- a loop's turns over the items that are left, each where the loop's statement begins
-abbrev pub turns : {H : Type 0}
-    → Option Place
-    → (Val → M H (Unit {0}))
-    → M H Flow
-    → List Val
-    → M H Flow
-turns place assign body [] = pure Next
-turns place assign body (item ∷ items) = do
-  _ ← lift (begin_at place)
-  _ ← assign item
-  flow ← body
-  turn_on flow (turns place assign body items)
-
--- a walk of a container begins, and one ends
-abbrev pub walk : {H : Type 0} → Val → M H (Unit {0})
-walk value = change_to (λ world. record world { heap = walked value world.heap })
-
-abbrev pub unwalk : {H : Type 0} → Val → M H (Unit {0})
-unwalk value = change_to (λ world. record world { heap = unwalked value world.heap })
-
--- the items that a value has when the loop begins, in turn, while a walk of it is open
-abbrev pub loop : {H : Type 0} → Val → (Val → M H (Unit {0})) → M H Flow → M H Flow
-loop value assign body =
-    λ world. (do
-      items ← lift (items_in value)
-      _ ← walk value
-      flow ← turns world.place assign body items
-      _ ← unwalk value
-      pure flow) world
 
 -- `+=` extends a list, and `|=` updates a dictionary
 unfoldable pub in_place : BinOp → Option Cell → InPlace
@@ -109,7 +52,7 @@ augmented library op old by heap =
 -- the meaning of what a statement says by those of its parts
 abbrev pub kind_step : {H : Type 0} → StmtKind-F (StmtMeaning H) (StmtMeaning H) → StmtMeaning H
 kind_step (StmtKind-F.Def function to) s = do
-  value ← function_made function s
+  value ← s.make function
   then_next (change_to (assigned to.scope to.slot value))
 kind_step (StmtKind-F.If test chosen other) s = do
   value ← (meaning test).value s

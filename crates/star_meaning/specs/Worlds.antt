@@ -98,3 +98,8 @@ unpacked_in count (Err why) = Err why
 -- the items of an iterable value, which are to be so many
 unfoldable pub unpacked : Val → ℕ → World → Work (List Val)
 unpacked value count world = of_result (unpacked_in count (items_of world.heap value)) world
+
+-- the line of the innermost running statement; 0 where none runs
+abbrev pub line_of : Option Place → ℕ
+line_of None = 0
+line_of (Some place) = place.line

@@ -1,4 +1,7 @@
 //! Why and where an evaluation is refused, and how a loop or a function is left.
+ghost use Rattle.std.specs.Prelude.{◌≡◌};
+ghost use Rattle.star_meaning.specs.Worlds as spec;
+
 use star_core::{Fault, Val};
 
 /// How many calls of functions may run at once.
@@ -65,4 +68,14 @@ pub enum InPlace {
     Extends,
     Merges,
     Elsewhere,
+}
+
+/// The line of the innermost running statement; 0 where none runs.
+pub fn line_of(place: Option<Place>) -> u64
+    ensures { result ≡ spec.line_of place }
+{
+    match place {
+        None => 0,
+        Some(place) => place.line,
+    }
 }
