@@ -1,14 +1,14 @@
 -- The arms of the pass that writes an expression's code.
-use Rattle.std.proofs.Common.{◌≡◌, ◌∙◌, ap, refl, subst, sym, arith, ℕ, ℤ, suc, ◌-◌, ◌<◌, Bool, List}
+use Rattle.std.proofs.Common.{◌≡◌, ◌∙◌, ap, subst, sym, arith, ℕ, ℤ, suc, ◌-◌, ◌<◌, Bool, List}
 use Rattle.std.proofs.Common.{[], ◌∷◌, length, drop, drop-cons, get_or, Option, Some, None}
-use Rattle.std.proofs.Common.{slice_get}
 use Rattle.std.proofs.Math.Seq.{drop-length}
 use Rattle.star_compiler.proofs.Growing.{grows_both, grows_same, later_tables}
-use Rattle.star_code.specs.Codes.{ArgCode, ArgsCode, BoundCode, ExprCode, ExprsCode, PairsCode}
-use Rattle.star_code.specs.Codes.{Tables}
-use Rattle.star_compiler.specs.Emitted.{BlockPut, Emits, EmitsArg, EmitsArgs, EmitsBound, EmitsExpr}
-use Rattle.star_compiler.specs.Emitted.{EmitsExprs, EmitsPairs, ExprBlock, Extends, LiteralPut, NamePut}
-use Rattle.star_compiler.specs.Emitted.{tables_in}
+use Rattle.star_code.specs.Codes.{ArgCode, ArgsCode, BoundCode, ExprCode, ExprsCode, FillCode, Item}
+use Rattle.star_code.specs.Codes.{Pair, PairsCode, Tables}
+use Rattle.star_compiler.specs.Emitted.{BlockPut, CallIs, CallPut, Emits, EmitsArg, EmitsArgs}
+use Rattle.star_compiler.specs.Emitted.{EmitsBound, EmitsComprehension, EmitsExpr, EmitsExprs}
+use Rattle.star_compiler.specs.Emitted.{EmitsPairs, ExprBlock, ItemFill, LiteralPut, Makes}
+use Rattle.star_compiler.specs.Emitted.{NamePut}
 use Rattle.star_code.specs.declared.code.Instr.{Instr}
 use Rattle.star_code.specs.declared.code.Instr.TheVariants as instr
 use Rattle.star_compiler.specs.declared.emitter.Emitter.{Emitter}
@@ -21,7 +21,7 @@ use Rattle.star_trees.specs.declared.trees.BinOp.{BinOp}
 use Rattle.star_trees.specs.declared.trees.Clause.{Clause}
 use Rattle.star_trees.specs.declared.trees.Expr as e
 use Rattle.star_trees.specs.declared.trees.Expr.{Expr}
-use Rattle.star_trees.specs.declared.trees.ExprPair.{ExprPair, roll-ExprPair}
+use Rattle.star_trees.specs.declared.trees.ExprPair.{ExprPair}
 use Rattle.star_trees.specs.declared.trees.UnOp.{UnOp}
 use Rattle.star_trees.specs.declared.trees.Var.{Var}
 
@@ -210,21 +210,46 @@ module _ (x : Expr) where
         coded = λ t holds. rw (same, last, put) (ExprCode.dict (emitted.coded t holds));
       }
 
-  pub list_comp_arm : (item : Expr) (clauses : List Clause) (emitter : Emitter)
-      (rest is : List Instr)
+  pub list_comp_arm : (item : Expr) (clauses : List Clause) (a b c : Emitter)
+      (fill rest mid put is : List Instr)
       → x ≡ e.ListComp item clauses
-      → is ≡ instr.Tick ∷ instr.Unbuilt ∷ rest
-      → EmitsExpr x emitter emitter rest is
-  list_comp_arm item clauses emitter rest is same last =
-      plain emitter rest is (λ t. rw (same, last) (ExprCode.list_comp item clauses))
+      → ItemFill item a b fill
+      → EmitsComprehension clauses fill b c rest mid
+      → put ≡ instr.List 0 ∷ mid
+      → is ≡ instr.Tick ∷ put
+      → EmitsExpr x a c rest is
+  list_comp_arm item clauses a b c fill rest mid put is same filled emitted first last =
+      record {
+        grows = grows_both filled.grows emitted.grows;
+        coded = λ t holds.
+            rw (same, last, first) (ExprCode.list_comp (emitted.coded t holds (Item item)
+            (filled.coded t (later_tables t emitted.grows holds))));
+      }
 
-  pub dict_comp_arm : (key value : Expr) (clauses : List Clause) (emitter : Emitter)
-      (rest is : List Instr)
+  pub dict_comp_arm : (key value : Expr) (clauses : List Clause) (a b c d : Emitter)
+      (begin first mid fill rest after put is : List Instr)
       → x ≡ e.DictComp key value clauses
-      → is ≡ instr.Tick ∷ instr.Unbuilt ∷ rest
-      → EmitsExpr x emitter emitter rest is
-  dict_comp_arm key value clauses emitter rest is same last =
-      plain emitter rest is (λ t. rw (same, last) (ExprCode.dict_comp key value clauses))
+      → begin ≡ []
+      → first ≡ instr.CollectEntry ∷ begin
+      → EmitsExpr value a b first mid
+      → EmitsExpr key b c mid fill
+      → EmitsComprehension clauses fill c d rest after
+      → put ≡ instr.Dict ∷ after
+      → is ≡ instr.Tick ∷ put
+      → EmitsExpr x a d rest is
+  dict_comp_arm key value clauses a b c d begin first mid fill rest after put is same empty at
+      on_value on_key emitted before last =
+      record {
+        grows = grows_both on_value.grows (grows_both on_key.grows emitted.grows);
+        coded = λ t holds.
+            let at_key = later_tables t emitted.grows holds in
+            let at_value = later_tables t on_key.grows at_key in
+            rw (same, last, before) (ExprCode.dict_comp (emitted.coded t holds (Pair key value)
+            (FillCode.fill_entry
+            (subst (λ o. ExprCode t value o mid) (at ∙ ap (λ o. instr.CollectEntry ∷ o) empty)
+            (on_value.coded t at_value))
+            (on_key.coded t at_key))));
+      }
 
   pub unary_arm : (op : UnOp) (of : Expr) (a b : Emitter) (rest first mid is : List Instr)
       → x ≡ e.Unary op of
@@ -306,11 +331,14 @@ module _ (x : Expr) where
 
   pub lambda_arm : (function : ℕ) (emitter : Emitter) (rest first is : List Instr)
       → x ≡ e.Lambda function
-      → first ≡ instr.Def function ∷ rest
+      → Makes emitter function rest first
       → is ≡ instr.Tick ∷ first
       → EmitsExpr x emitter emitter rest is
-  lambda_arm function emitter rest first is same put last =
-      plain emitter rest is (λ t. rw (same, last, put) ExprCode.lambda)
+  lambda_arm function emitter rest first is same made last =
+      record {
+        grows = made.grows;
+        coded = λ t holds. rw (same, last) (ExprCode.lambda (made.coded t holds));
+      }
 
   pub attribute_arm : (of : Expr) (name : List ℕ) (index : ℕ) (a b c : Emitter)
       (rest first mid is : List Instr)
@@ -372,24 +400,33 @@ module _ (x : Expr) where
             (on_of.coded t holds));
       }
 
-  pub call_arm : (function : Expr) (args : List Arg) (count : ℕ) (a b c : Emitter)
+  call_coded : (function : Expr) (args : List Arg) (t : Tables)
+      (rest first mid second : List Instr)
+      → CallIs t args rest first
+      → ArgsCode t args first mid
+      → ExprCode t function mid second
+      → ExprCode t (e.Call function args) rest (instr.Tick ∷ second)
+  call_coded function args t rest first mid second (CallIs.plainly plain_args) on_args on_function =
+      ExprCode.call plain_args on_args on_function
+  call_coded function args t rest first mid second (CallIs.shaped there) on_args on_function =
+      ExprCode.gathered_call there on_args on_function
+
+  pub call_arm : (function : Expr) (args : List Arg) (a b c d : Emitter)
       (rest first mid second is : List Instr)
       → x ≡ e.Call function args
-      → count ≡ length args
-      → first ≡ instr.Call count ∷ rest
-      → EmitsArgs args a b first mid
-      → EmitsExpr function b c mid second
+      → CallPut args a b rest first
+      → EmitsArgs args b c first mid
+      → EmitsExpr function c d mid second
       → is ≡ instr.Tick ∷ second
-      → EmitsExpr x a c rest is
-  call_arm function args count a b c rest first mid second is same long put on_args on_function
-      last =
+      → EmitsExpr x a d rest is
+  call_arm function args a b c d rest first mid second is same put on_args on_function last =
       record {
-        grows = grows_both on_args.grows on_function.grows;
+        grows = grows_both put.grows (grows_both on_args.grows on_function.grows);
         coded = λ t holds.
-            rw (same, last) (ExprCode.call
-            (subst (λ o. ArgsCode t args o mid) (put ∙ ap (λ n. instr.Call n ∷ rest) long)
-            (on_args.coded t (later_tables t on_function.grows holds)))
-            (on_function.coded t holds));
+            let at_args = later_tables t on_function.grows holds in
+            let at_put = later_tables t on_args.grows at_args in
+            rw (same, last) (call_coded function args t rest first mid second (put.coded t at_put)
+            (on_args.coded t at_args) (on_function.coded t holds));
       }
 
 -- the same part under another word
@@ -417,6 +454,25 @@ pub as_args : {a b : Emitter} {rest is : List Instr} {p q : List Arg}
     → EmitsArgs q a b rest is
 as_args {a} {b} {rest} {is} same emitted = subst (λ x. EmitsArgs x a b rest is) same emitted
 
+pub as_call : {a b : Emitter} {rest is : List Instr} {p q : List Arg}
+    → p ≡ q
+    → CallPut p a b rest is
+    → CallPut q a b rest is
+as_call {a} {b} {rest} {is} same put = subst (λ x. CallPut x a b rest is) same put
+
+pub as_fill : {a b : Emitter} {fill : List Instr} {p q : Expr}
+    → p ≡ q
+    → ItemFill p a b fill
+    → ItemFill q a b fill
+as_fill {a} {b} {fill} same filled = subst (λ x. ItemFill x a b fill) same filled
+
+pub as_comprehension : {a b : Emitter} {fill rest is : List Instr} {p q : List Clause}
+    → p ≡ q
+    → EmitsComprehension p fill a b rest is
+    → EmitsComprehension q fill a b rest is
+as_comprehension {a} {b} {fill} {rest} {is} same emitted =
+    subst (λ x. EmitsComprehension x fill a b rest is) same emitted
+
 pub as_block : {a b : Emitter} {block : ℕ} {p q : Expr}
     → p ≡ q
     → ExprBlock p block a b
@@ -434,26 +490,39 @@ module _ (x : Arg) where
         coded = λ t holds. rw same (ArgCode.positional (emitted.coded t holds));
       }
 
-  pub named_arm : (name : List ℕ) (value : Expr) (emitter : Emitter) (rest is : List Instr)
+  pub named_arm : (name : List ℕ) (value : Expr) (a b : Emitter) (rest is : List Instr)
       → x ≡ arg.Named name value
-      → is ≡ instr.Unbuilt ∷ rest
-      → EmitsArg x emitter emitter rest is
-  named_arm name value emitter rest is same last =
-      plain emitter rest is (λ t. rw (same, last) (ArgCode.named name value))
+      → EmitsExpr value a b rest is
+      → EmitsArg x a b rest is
+  named_arm name value a b rest is same emitted =
+      record {
+        grows = emitted.grows;
+        coded = λ t holds. rw same (ArgCode.named (emitted.coded t holds));
+      }
 
-  pub star_arm : (value : Expr) (emitter : Emitter) (rest is : List Instr)
+  pub star_arm : (value : Expr) (a b : Emitter) (rest first is : List Instr)
       → x ≡ arg.Star value
-      → is ≡ instr.Unbuilt ∷ rest
-      → EmitsArg x emitter emitter rest is
-  star_arm value emitter rest is same last =
-      plain emitter rest is (λ t. rw (same, last) (ArgCode.star value))
+      → first ≡ instr.CheckItems ∷ rest
+      → EmitsExpr value a b first is
+      → EmitsArg x a b rest is
+  star_arm value a b rest first is same put emitted =
+      record {
+        grows = emitted.grows;
+        coded = λ t holds. rw same (ArgCode.star
+            (subst (λ o. ExprCode t value o is) put (emitted.coded t holds)));
+      }
 
-  pub double_star_arm : (value : Expr) (emitter : Emitter) (rest is : List Instr)
+  pub double_star_arm : (value : Expr) (a b : Emitter) (rest first is : List Instr)
       → x ≡ arg.DoubleStar value
-      → is ≡ instr.Unbuilt ∷ rest
-      → EmitsArg x emitter emitter rest is
-  double_star_arm value emitter rest is same last =
-      plain emitter rest is (λ t. rw (same, last) (ArgCode.double_star value))
+      → first ≡ instr.CheckKeywords ∷ rest
+      → EmitsExpr value a b first is
+      → EmitsArg x a b rest is
+  double_star_arm value a b rest first is same put emitted =
+      record {
+        grows = emitted.grows;
+        coded = λ t holds. rw same (ArgCode.double_star
+            (subst (λ o. ExprCode t value o is) put (emitted.coded t holds)));
+      }
 
 module _ (x : Option Expr) where
   pub absent_arm : (emitter : Emitter) (rest is : List Instr)

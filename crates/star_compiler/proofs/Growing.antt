@@ -1,21 +1,20 @@
 -- The tables of the pass only grow.
-use Rattle.std.proofs.Common.{◌≡◌, ◌∙◌, ap, refl, subst, sym, ℕ, zero, suc, List, [], ◌∷◌, ◌++◌}
-use Rattle.std.proofs.Common.{length, slice_get, Option, Some, None, Result, Ok, Err, OnOk, IfOk}
+use Rattle.std.proofs.Common.{◌≡◌, ◌∙◌, refl, ℕ, zero, suc, List, [], ◌∷◌, ◌++◌}
+use Rattle.std.proofs.Common.{length, slice_get, Some, Result, Ok, Err, OnOk, IfOk}
 use Rattle.star_code.specs.Codes.{Tables}
-use Rattle.star_compiler.specs.Emitted.{AreLiterals, BlockPut, Emits, Extends, ExprBlock, Grows}
+use Rattle.star_compiler.specs.Emitted.{Extends, Grows}
 use Rattle.star_compiler.specs.Emitted.{HasMoreCells, tables_in}
 use Rattle.star_core.specs.Heaps.{HeapState}
-use Rattle.star_code.specs.declared.code.Instr.{Instr}
 use Rattle.star_compiler.specs.declared.emitter.Emitter.{Emitter}
-use Rattle.star_core.specs.Dicts.{Entry}
-use Rattle.star_core.specs.declared.values.Val.{Val}
 
 pub extends_same : (t : Tables) → Extends t t
 extends_same t =
     record {
       blocks = λ block code there. there;
       names = λ index name there. there;
+      shapes = λ index ways there. there;
       literals = λ text value there. there;
+      least = refl;
     }
 
 pub extends_both : (a b c : Tables) → Extends a b → Extends b c → Extends a c
@@ -23,7 +22,9 @@ extends_both a b c first more =
     record {
       blocks = λ block code there. more.blocks block code (first.blocks block code there);
       names = λ index name there. more.names index name (first.names index name there);
+      shapes = λ index ways there. more.shapes index ways (first.shapes index ways there);
       literals = λ text value there. more.literals text value (first.literals text value there);
+      least = more.least ∙ first.least;
     }
 
 cells_same : (heap : HeapState) → HasMoreCells heap heap

@@ -1,3 +1,4 @@
+pub mod ClauseArms
 pub mod ExprArms
 pub mod Functions
 pub mod Growing

@@ -1,13 +1,13 @@
 -- A text that a file spells gets a cell of its own, and each earlier one keeps its.
 use Rattle.std.proofs.Common.{◌≡◌, ◌∙◌, ap, refl, subst, sym, ℕ, Bool, true, false, List, [], ◌∷◌}
-use Rattle.std.proofs.Common.{◌++◌, if◌then◌else◌, length, slice_get, Option, Some, None, option_map}
+use Rattle.std.proofs.Common.{◌++◌, if◌then◌else◌, slice_get, Option, Some, None, option_map}
 use Rattle.std.proofs.lemmas.Slice.Eq.{bytes_eq-Decides}
 use Rattle.std.specs.Str.{bytes_eq}
 use Rattle.star_compiler.proofs.Growing.{front_stays, last_stands}
-use Rattle.star_compiler.specs.Emitted.{AreLiterals, Grows, LiteralPut}
+use Rattle.star_compiler.specs.Emitted.{LiteralPut}
 use Rattle.star_compiler.specs.declared.emitter.Emitter.{Emitter}
 use Rattle.star_core.specs.Dicts.{Entry, entry_of, with_entry}
-use Rattle.star_core.specs.Heaps.{HeapState, cell_at, literal_made, next_value, with_cell}
+use Rattle.star_core.specs.Heaps.{HeapState, cell_at, next_value, with_cell}
 use Rattle.star_core.specs.declared.cells.Cell.{Cell}
 use Rattle.star_core.specs.declared.cells.Cell.TheVariants as cell
 use Rattle.star_core.specs.declared.dict.Pair.{Pair}
@@ -122,14 +122,18 @@ pub literal_put : (text : List ℕ) (old new : Emitter) (value : Val) (pair : Pa
     → new.literals ≡ with_entry text pair old.literals
     → new.blocks ≡ old.blocks
     → new.names ≡ old.names
+    → new.shapes ≡ old.shapes
+    → new.least ≡ old.least
     → LiteralPut text value old new
-literal_put text old new value pair absent paired is heap literals blocks names =
+literal_put text old new value pair absent paired is heap literals blocks names shapes least =
     record {
       grows = record {
         tables = record {
           blocks = λ block code there. rw blocks there;
           names = λ index name there. rw names there;
+          shapes = λ index ways there. rw shapes there;
           literals = λ t v there. rw literals (kept text pair old.literals absent t v there);
+          least = least;
         };
         heap = record {
           cells = λ number held there. rw heap

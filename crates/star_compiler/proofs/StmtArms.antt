@@ -1,21 +1,21 @@
 -- The arms of the pass that writes the code of targets and statements.
-use Rattle.std.proofs.Common.{◌≡◌, ◌∙◌, ap, refl, subst, sym, arith, ℕ, suc, ◌-◌, ◌<◌, List}
-use Rattle.std.proofs.Common.{[], ◌∷◌, length, drop, drop-cons, get_or, Option, Some, None}
+use Rattle.std.proofs.Common.{◌≡◌, subst, arith, ℕ, suc, ◌-◌, ◌<◌, List}
+use Rattle.std.proofs.Common.{[], ◌∷◌, length, drop, drop-cons, get_or, Option}
 use Rattle.std.proofs.Math.Seq.{drop-length}
 use Rattle.star_compiler.proofs.ExprArms.{plain}
-use Rattle.star_compiler.proofs.Growing.{grows_both, grows_same, later_tables}
-use Rattle.star_code.specs.Codes.{AugmentCode, BoundCode, ExprCode, KindCode, StmtCode, StmtsCode}
-use Rattle.star_code.specs.Codes.{Tables, TargetCode, TargetsCode}
+use Rattle.star_compiler.proofs.Growing.{grows_both, later_tables}
+use Rattle.star_code.specs.Codes.{AugmentCode, BoundCode, ExprCode, KindCode, MakeCode, StmtCode}
+use Rattle.star_code.specs.Codes.{StmtsCode, TargetCode, TargetsCode}
 use Rattle.star_code.specs.declared.code.Instr.{Instr}
 use Rattle.star_code.specs.declared.code.Instr.TheVariants as instr
 use Rattle.star_compiler.specs.Emitted.{BlockPut, Emits, EmitsBound, EmitsExpr, EmitsKind}
-use Rattle.star_compiler.specs.Emitted.{EmitsStmt, EmitsStmts, EmitsTarget, EmitsTargets, Extends}
-use Rattle.star_compiler.specs.Emitted.{StmtsBlock, TurnBlock, tables_in}
+use Rattle.star_compiler.specs.Emitted.{EmitsStmt, EmitsStmts, EmitsTarget, EmitsTargets}
+use Rattle.star_compiler.specs.Emitted.{Makes, StmtsBlock, TurnBlock}
 use Rattle.star_compiler.specs.declared.emitter.Emitter.{Emitter}
 use Rattle.star_trees.specs.declared.trees.BinOp.{BinOp}
 use Rattle.star_trees.specs.declared.trees.Expr as e
 use Rattle.star_trees.specs.declared.trees.Expr.{Expr}
-use Rattle.star_trees.specs.declared.trees.Stmt.{Stmt, roll-Stmt}
+use Rattle.star_trees.specs.declared.trees.Stmt.{Stmt}
 use Rattle.star_trees.specs.declared.trees.StmtKind as st
 use Rattle.star_trees.specs.declared.trees.StmtKind.{StmtKind}
 use Rattle.star_trees.specs.declared.trees.Target as target
@@ -28,7 +28,7 @@ one_less left some = omega arith
 pub no_targets : (targets : List Target) (emitter : Emitter) (rest : List Instr)
     → EmitsTargets (drop (length targets) targets) emitter emitter rest rest
 no_targets targets emitter rest =
-    plain emitter rest rest (λ t. rw (drop-length targets) TargetsCode.none)
+    plain emitter rest rest (λ t. rw (drop-length targets) TargetsCode.no_target)
 
 pub more_targets : (targets : List Target) (left : ℕ) (item : Target) (a b c : Emitter)
     (rest mid is : List Instr)
@@ -43,7 +43,7 @@ more_targets targets left item a b c rest mid is some within at more first =
       grows = grows_both more.grows first.grows;
       coded = λ t holds.
           rw (drop-cons targets (left - 1) item within)
-          (TargetsCode.some
+          (TargetsCode.one_target
           (subst (λ k. TargetsCode t (drop k targets) rest mid) (one_less left some)
           (more.coded t (later_tables t first.grows holds)))
           (subst (λ x. TargetCode t x mid is) at (first.coded t holds)));
@@ -126,7 +126,7 @@ module _ (x : Target) where
       → is ≡ instr.Set var.scope var.slot ∷ rest
       → EmitsTarget x emitter emitter rest is
   name_target var emitter rest is same last =
-      plain emitter rest is (λ t. rw (same, last) TargetCode.name)
+      plain emitter rest is (λ t. rw (same, last) TargetCode.to_name)
 
   pub index_target : (of at : Expr) (a b c : Emitter) (rest first mid is : List Instr)
       → x ≡ target.Index of at
@@ -138,7 +138,7 @@ module _ (x : Target) where
       record {
         grows = grows_both on_at.grows on_of.grows;
         coded = λ t holds.
-            rw same (TargetCode.index
+            rw same (TargetCode.to_index
             (subst (λ o. ExprCode t at o mid) put
             (on_at.coded t (later_tables t on_of.grows holds)))
             (on_of.coded t holds));
@@ -153,17 +153,21 @@ module _ (x : Target) where
   many_targets targets count a b rest mid is same emitted long last =
       record {
         grows = emitted.grows;
-        coded = λ t holds. rw (same, last, long) (TargetCode.many (emitted.coded t holds));
+        coded = λ t holds. rw (same, last, long) (TargetCode.to_many (emitted.coded t holds));
       }
 
 module _ (x : StmtKind) where
   pub define_arm : (function : ℕ) (to : Var) (emitter : Emitter) (rest first is : List Instr)
       → x ≡ st.Def function to
       → first ≡ instr.Set to.scope to.slot ∷ rest
-      → is ≡ instr.Def function ∷ first
+      → Makes emitter function first is
       → EmitsKind x emitter emitter rest is
-  define_arm function to emitter rest first is same put last =
-      plain emitter rest is (λ t. rw (same, last, put) KindCode.define)
+  define_arm function to emitter rest first is same put made =
+      record {
+        grows = made.grows;
+        coded = λ t holds. rw same (KindCode.define
+            (subst (λ o. MakeCode t function o is) put (made.coded t holds)));
+      }
 
   pub branch_arm : (test : Expr) (chosen other : List Stmt) (chosen_at other_at : ℕ)
       (a b c d : Emitter) (rest first is : List Instr)

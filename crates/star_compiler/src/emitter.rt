@@ -1,21 +1,25 @@
 //! What the pass writes: blocks, names and the cells of texts, which only grow.
 ghost use Rattle.std.specs.Prelude.{◌≡◌, ◌∷◌, IfOk, None, OnOk};
-ghost use Rattle.star_compiler.specs.Emitted.{BlockPut, LiteralPut, NamePut};
+ghost use Rattle.star_compiler.specs.Emitted.{BlockPut, LiteralPut, NamePut, ShapePut};
 ghost use Rattle.star_core.specs.Dicts.{entry_of};
 
 use bz_text::{Mem, OutOfMemory, Txt};
 use sqlite_items::Items;
 use star_code::Instr;
 use star_core::{Dict, Heap, Pair, Stack, Val};
+use star_meaning::Way;
 use std::alloc::Global;
 
 /// The tables of a file's code while it is written. Code is written from its end to its beginning,
-/// so that what comes behind a part stands there already.
+/// so that what comes behind a part stands there already. `least` is the first function of the file
+/// that may be made where code is written.
 #[derive(Drop)]
 pub struct Emitter {
     pub blocks: Items<Items<Instr>>,
     pub names: Items<Txt>,
+    pub shapes: Items<Items<Way>>,
     pub literals: Dict,
+    pub least: usize,
     pub heap: Heap,
     pub alloc: Global,
 }
@@ -36,6 +40,15 @@ impl Emitter {
     {
         let index = self.names.len();
         self.names.push(name.copy(self.alloc)?)?;
+        Ok(index)
+    }
+
+    /// Keeps the shape of a call; its number.
+    pub fn keep_shape(&mut self, ways: Items<Way>) -> Mem<usize>
+        ensures { IfOk result (λ index. ShapePut ways index self.old self.new) }
+    {
+        let index = self.shapes.len();
+        self.shapes.push(ways)?;
         Ok(index)
     }
 

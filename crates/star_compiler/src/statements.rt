@@ -1,8 +1,8 @@
 //! The code of targets and statements.
 ghost use Rattle.std.specs.Prelude.{◌≡◌, IfOk, OnOk};
 ghost use Rattle.star_code.specs.Codes.{AugmentCode};
-ghost use Rattle.star_compiler.specs.Emitted.{Emits, EmitsBound, EmitsKind, EmitsStmt, EmitsStmts, EmitsTarget};
-ghost use Rattle.star_compiler.specs.Emitted.{EmitsTargets, StmtsBlock, TurnBlock};
+ghost use Rattle.star_compiler.specs.Emitted.{Emits, EmitsBound, EmitsKind, EmitsStmt, EmitsStmts};
+ghost use Rattle.star_compiler.specs.Emitted.{StmtsBlock, TurnBlock};
 
 use crate::emitter::{Emitter, put};
 use bz_text::Mem;
@@ -10,42 +10,6 @@ use star_code::Instr;
 use star_core::{BinOp, Expr, Stack, Stmt, StmtKind, Target, Val};
 
 impl Emitter {
-    #[cycle(target)]
-    fn target(&mut self, out: &mut Stack<Instr>, target: &Target) -> Mem<()>
-        ensures { OnOk result (EmitsTarget target.now self.old self.new out.old out.new) }
-    {
-        match target {
-            Target::Name(var) => put(
-                out,
-                Instr::Set {
-                    hops: var.scope,
-                    slot: var.slot,
-                },
-            ),
-            Target::Index { of, at } => {
-                put(out, Instr::SetIndex)?;
-                self.expr(out, at.get())?;
-                self.expr(out, of.get())
-            }
-            Target::Many(targets) => {
-                self.targets(out, targets.as_slice())?;
-                put(out, Instr::Unpack(targets.len()))
-            }
-        }
-    }
-
-    #[cycle(target)]
-    fn targets(&mut self, out: &mut Stack<Instr>, targets: &[Target]) -> Mem<()>
-        ensures { OnOk result (EmitsTargets targets.now self.old self.new out.old out.new) }
-    {
-        let mut left = targets.len();
-        'targets: while left > 0 {
-            left -= 1;
-            self.target(out, &targets[left])?;
-        }
-        Ok(())
-    }
-
     /// The code of an augmented assignment to an expression.
     fn augment(&mut self, out: &mut Stack<Instr>, to: &Expr, op: BinOp, value: &Expr) -> Mem<()>
         ensures { OnOk result (Emits (λ t. AugmentCode t op value.now to.now) self.old self.new
@@ -136,7 +100,7 @@ impl Emitter {
                         slot: to.slot,
                     },
                 )?;
-                put(out, Instr::Def(*function))
+                self.make(out, *function)
             }
             StmtKind::If { test, then, other } => {
                 let chosen = self.block(then.as_slice())?;

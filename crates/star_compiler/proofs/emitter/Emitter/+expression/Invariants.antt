@@ -1,5 +1,6 @@
-use Rattle.std.proofs.Common.{◌≤◌, drop, length}
-use Rattle.star_compiler.specs.Emitted.{EmitsArgs, EmitsExprs, EmitsPairs}
+use Rattle.std.proofs.Common.{◌<◌, ◌≤◌, drop, length}
+use Rattle.star_compiler.proofs.ClauseArms.{Written}
+use Rattle.star_compiler.specs.Emitted.{EmitsArgs, EmitsExprs, EmitsPairs, EmitsTargets}
 use Rattle.star_compiler.proofs.emitter.Emitter.+expression.Given as goal
 
 abbrev pub invariant-args-args-2 : goal.invariant-args-args-2
@@ -22,3 +23,20 @@ invariant-pairs-pairs l =
 
 abbrev pub decreases-pairs-pairs : goal.decreases-pairs-pairs
 decreases-pairs-pairs l = l.left
+
+abbrev pub invariant-comprehension-clauses : goal.invariant-comprehension-clauses
+invariant-comprehension-clauses l =
+    (l.left ≤ length l.clauses)
+    × (0 < length l.clauses → 0 < l.left)
+    × Written l.clauses l.left l.fn.fill l.code l.fn.self l.self
+
+abbrev pub decreases-comprehension-clauses : goal.decreases-comprehension-clauses
+decreases-comprehension-clauses l = l.left
+
+abbrev pub invariant-targets-targets : goal.invariant-targets-targets
+invariant-targets-targets l =
+    (l.left ≤ length l.targets)
+    × EmitsTargets (drop l.left l.targets) l.fn.self l.self l.fn.out l.out
+
+abbrev pub decreases-targets-targets : goal.decreases-targets-targets
+decreases-targets-targets l = l.left

@@ -20,7 +20,7 @@ turn_block-returns t c =
 pub kind-returns-in_ok-put-in-Def : goal.kind-returns-in_ok-put-in-Def
 kind-returns-in_ok-put-in-Def t c =
     on_ok _ _ _ (λ last. define_arm _ _ _ _ _ _ _ c.in-Def.is c.in_ok-put-in-Def.ensures last)
-    c.put-in-Def.ensures
+    c.make.ensures
 
 pub kind-returns-in_ok-put-in-If : goal.kind-returns-in_ok-put-in-If
 kind-returns-in_ok-put-in-If t c =

@@ -8,8 +8,10 @@ returns c =
     (record {
       blocks = c.args.self.now.blocks;
       names = c.args.self.now.names;
+      shapes = c.args.self.now.shapes;
       literals = c.put.new.self;
+      least = c.args.self.now.least;
       heap = c.literal.new.self;
       alloc = c.args.self.now.alloc;
     }) c.in-Ok.value (record { key = c.in-Ok.value; value = c.in-Ok.value }) c.requires refl
-    (search rules) (search rules) (search rules) refl refl
+    (search rules) (search rules) (search rules) refl refl refl refl
