@@ -4,6 +4,7 @@ use Rattle.std.specs.Prelude.{ℕ, List, [], map, drop, Option, Some, None, opti
 use Rattle.std.specs.Prelude.{slice_get}
 use Rattle.star_code.specs.declared.code.Code.{Code}
 use Rattle.star_code.specs.declared.code.Instr.{Instr}
+use Rattle.star_core.specs.declared.values.Args.{Args}
 use Rattle.star_core.specs.declared.values.Val.{Val}
 use Rattle.star_machine.specs.declared.machine.Later.{Later}
 use Rattle.star_machine.specs.declared.machine.Later.TheVariants as later
@@ -19,10 +20,12 @@ pub data Doing : Type 0 where
   Runs : List Instr → Doing
   Leaves : Exit → Doing
 
--- what goes on where a block ends: the code behind it; or the turns of a loop over the items that
--- are left of a container, each run by this code, from where the loop's statement begins
+-- what goes on where a block ends: the code behind it; the same in the scope round one that ends
+-- with the block; or the turns of a loop over the items that are left of a container, each run by
+-- this code, from where the loop's statement begins
 pub data Onward : Type 0 where
   Behind : List Instr → Onward
+  Outwards : (scope : ℕ) → List Instr → Onward
   Turns : (items : List Val)
       (over : Val)
       (body : List Instr)
@@ -39,12 +42,13 @@ pub record Caller : Type 0 where
   pub scope : ℕ
   pub place : Option Place
 
--- the file whose code runs, what is being done, the operands, what goes on behind, the runs that
--- wait, the functions of which calls run, and the world
+-- the file whose code runs, what is being done, the operands, the arguments that were gathered for
+-- a call, what goes on behind, the runs that wait, the functions of which calls run, and the world
 pub record Config : Type 0 where
   pub file : ℕ
   pub doing : Doing
   pub stack : List Val
+  pub gathered : Args
   pub onward : List Onward
   pub callers : List Caller
   pub running : List Running
@@ -65,6 +69,8 @@ left_of codes file block next = drop next (block_of codes file block)
 
 abbrev pub onward_of : List Code → ℕ → Later → Onward
 onward_of codes file (later.Behind block next) = Behind (left_of codes file block next)
+onward_of codes file (later.Outwards scope block next) =
+    Outwards scope (left_of codes file block next)
 onward_of codes file (later.Turns turns) =
     Turns turns.items turns.over (block_of codes file turns.body) turns.place
     (left_of codes file turns.block turns.next)
@@ -102,6 +108,7 @@ config_of codes machine =
       file = machine.task.file;
       doing = doing_of codes machine.leaving machine.task;
       stack = machine.task.stack;
+      gathered = machine.gathered;
       onward = map (onward_of codes machine.task.file) machine.task.later;
       callers = map (caller_of codes) machine.callers;
       running = machine.running;

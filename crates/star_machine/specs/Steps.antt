@@ -1,13 +1,13 @@
 -- What each instruction does to where a machine stands. The instruction itself is gone from what is
 -- left of its block.
-use Rattle.std.specs.Prelude.{ℕ, suc, ◌==◌, Bool, true, false, cond, nat_lt, if◌then◌else◌, List}
-use Rattle.std.specs.Prelude.{[], ◌∷◌, ◌++◌, length, Option, Some, None, Ok, Err, slice_get}
+use Rattle.std.specs.Prelude.{ℕ, Bool, true, false, cond, nat_lt, if◌then◌else◌, List}
+use Rattle.std.specs.Prelude.{[], ◌∷◌, ◌++◌, length, Option, Some, None, slice_get}
 use Rattle.std.specs.Prelude.{drop, option_and_then}
 use Rattle.star_code.specs.declared.code.Code.{Code}
 use Rattle.star_code.specs.declared.code.FnEntry.{FnEntry}
 use Rattle.star_code.specs.declared.code.Instr.{Instr}
 use Rattle.star_code.specs.declared.code.Instr.TheVariants as instr
-use Rattle.star_core.specs.Heaps.{Change, HeapState, made, unwalked, walked}
+use Rattle.star_core.specs.Heaps.{made, unwalked, walked}
 use Rattle.star_core.specs.Stacks.{taken}
 use Rattle.star_core.specs.declared.cells.Cell.TheVariants as cell
 use Rattle.star_core.specs.declared.faults.Fault.{Fault}
@@ -15,17 +15,21 @@ use Rattle.star_core.specs.declared.faults.Fault.TheVariants as fault
 use Rattle.star_core.specs.declared.values.Args.{Args}
 use Rattle.star_core.specs.declared.values.Val.{Val}
 use Rattle.star_core.specs.declared.values.Val.TheVariants as val
-use Rattle.star_machine.specs.Configs.{Behind, Caller, Config, Doing, Leaves, Onward, Runs, Turns}
-use Rattle.star_machine.specs.Configs.{block_of}
+use Rattle.star_machine.specs.Configs.{Behind, Caller, Config, Doing, Leaves, Onward, Outwards, Runs}
+use Rattle.star_machine.specs.Configs.{Turns, block_of}
 use Rattle.star_machine.specs.Outcomes.{Breaks, Ends, Goes, Step}
+use Rattle.star_meaning.specs.Arguments.{by_position, no_args}
 use Rattle.star_meaning.specs.Attributes.{Callee, Defined, Nothing, OfHost, OfLibrary}
 use Rattle.star_meaning.specs.Attributes.{attribute_of, callee_of}
-use Rattle.star_meaning.specs.Calls.{by_position, given_by, is_running, running_of}
-use Rattle.star_meaning.specs.Expressions.{closure, entry_displayed, same_bool}
+use Rattle.star_meaning.specs.Calls.{given_by, is_running, running_of}
+use Rattle.star_meaning.specs.Expressions.{appended, args_in, closure, entry_displayed, items_checked}
+use Rattle.star_meaning.specs.Expressions.{keywords_checked, same_bool}
 use Rattle.star_meaning.specs.Libraries.{Rows}
+use Rattle.star_meaning.specs.Parameters.{bound}
 use Rattle.star_meaning.specs.Statements.{augmented}
 use Rattle.star_meaning.specs.Worlds.{Fails, Work, Works, World, assigned, begin_at, items_in}
-use Rattle.star_meaning.specs.Worlds.{of_result, on_heap, opened, tick, truth, unpacked, variable}
+use Rattle.star_meaning.specs.Worlds.{on_heap, opened, tick, truth, unpacked, variable}
+use Rattle.star_meaning.specs.declared.arguments.Way.{Way}
 use Rattle.star_meaning.specs.declared.reasons.Attribute.{Attribute}
 use Rattle.star_meaning.specs.declared.reasons.Attribute.TheVariants as attribute
 use Rattle.star_meaning.specs.declared.reasons.Closure.{Closure}
@@ -160,17 +164,81 @@ unfoldable pub function_entry : List Code → ℕ → ℕ → Option FnEntry
 function_entry codes file function =
     option_and_then (λ code. slice_get code.functions function) (slice_get codes file)
 
-abbrev pub defined_if : ℕ → List ℕ → Bool → Config → Step
-defined_if function name true config =
-    after (closure config.file function name config.world) (pushed config config.stack)
-defined_if function name false config = breaks reason.Unbuilt config
-
+-- the topmost operands become the defaults of a function
 abbrev pub defined_of : ℕ → Option FnEntry → Config → Step
 defined_of function None config = faults fault.Kind config
-defined_of function (Some entry) config = defined_if function entry.name entry.required config
+defined_of function (Some entry) config =
+    on_many config (taken entry.optional [] config.stack) (λ defaults below.
+    after (closure config.file function entry.name defaults config.world) (pushed config below))
 
 abbrev pub defined : List Code → ℕ → Config → Step
 defined codes function config = defined_of function (function_entry codes config.file function) config
+
+-- the block of a function's defaults is run
+abbrev pub defaulted_of : List Code → Option FnEntry → Config → Step
+defaulted_of codes None config = faults fault.Kind config
+defaulted_of codes (Some entry) config =
+    into_block config (block_of codes config.file entry.defaults) config.stack
+
+abbrev pub defaulted : List Code → ℕ → Config → Step
+defaulted codes function config =
+    defaulted_of codes (function_entry codes config.file function) config
+
+-- a block is run in a scope of its own
+abbrev pub inwards : List Code → ℕ → Config → Step
+inwards codes block config =
+    Goes (record config {
+      doing = Runs (block_of codes config.file block);
+      onward = Outwards config.world.scope (rest_of config.doing) ∷ config.onward;
+      world = opened config.world.scope [] config.world;
+    })
+
+-- the world in another of its scopes
+abbrev pub in_scope : ℕ → World → World
+in_scope scope world = record world { scope = scope }
+
+-- an item, or an entry, is put into the container below it
+abbrev pub collected : Config → Step
+collected config =
+    on_two config config.stack (λ list item below.
+    after (on_heap (appended list item) config.world)
+    (λ _ world. on_with config (list ∷ below) world))
+
+abbrev pub entry_collected : Rows → Config → Step
+entry_collected library config =
+    on_two config config.stack (λ key value below.
+    on_one config below (λ dict rest.
+    after (on_heap (library.set_index dict key value) config.world)
+    (λ _ world. on_with config below world)))
+
+-- operands that are to be spread
+abbrev pub items_tested : Config → Step
+items_tested config =
+    on_one config config.stack (λ value below.
+    after (items_checked value config.world) (λ _ world. on_with config config.stack world))
+
+abbrev pub keywords_tested : Config → Step
+keywords_tested config =
+    on_one config config.stack (λ value below.
+    after (keywords_checked value config.world) (λ _ world. on_with config config.stack world))
+
+-- a shape of a call of a file's code; nothing where there is none
+unfoldable pub shape_of : List Code → ℕ → ℕ → Option (List Way)
+shape_of codes file index =
+    option_and_then (λ code. slice_get code.shapes index) (slice_get codes file)
+
+abbrev pub gathered_in : List Way → Config → Step
+gathered_in ways config =
+    on_many config (taken (length ways) [] config.stack) (λ values below.
+    after (args_in ways values config.world) (λ args world.
+    Goes (record config { stack = below; gathered = args; world = world })))
+
+abbrev pub gathered_by : Option (List Way) → Config → Step
+gathered_by None config = faults fault.Kind config
+gathered_by (Some ways) config = gathered_in ways config
+
+abbrev pub gathered_step : List Code → ℕ → Config → Step
+gathered_step codes shape config = gathered_by (shape_of codes config.file shape) config
 
 abbrev pub indexed : Rows → Config → Step
 indexed library config =
@@ -311,32 +379,36 @@ entered codes f block values below config =
       file = f.file;
       doing = Runs (block_of codes f.file block);
       stack = [];
+      gathered = config.gathered;
       onward = [];
       callers = waiting config below ∷ config.callers;
       running = running_of f ∷ config.running;
       world = opened f.around values config.world;
     })
 
--- as many arguments as parameters; then no call of the function may run, and not too many calls
+-- no call of the function may run, and not too many calls
 abbrev pub entered_if : List Code → Closure → FnEntry → List Val → List Val → Config → Step
 entered_if codes f entry values below config =
-    if length values == entry.params
-    then (if is_running (running_of f) config.running
+    if is_running (running_of f) config.running
     then faults fault.Recursion config
     else (if nat_lt (length config.running) MOST_CALLS
     then entered codes f entry.block values below config
-    else faults fault.Depth config))
-    else faults fault.Arity config
+    else faults fault.Depth config)
 
-abbrev pub entered_of : List Code
+-- the arguments are bound first
+abbrev pub entered_of : Rows
+    → List Code
     → Closure
-    → Option FnEntry
     → List Val
+    → Option FnEntry
+    → Args
     → List Val
     → Config
     → Step
-entered_of codes f None values below config = faults fault.Kind config
-entered_of codes f (Some entry) values below config = entered_if codes f entry values below config
+entered_of library codes f defaults None args below config = faults fault.Kind config
+entered_of library codes f defaults (Some entry) args below config =
+    after (on_heap (bound library entry.params defaults args) config.world)
+    (λ values world. entered_if codes f entry values below (record config { world = world }))
 
 abbrev pub library_if : Bool → Step → Config → Step
 library_if true plain config = breaks reason.Unbuilt config
@@ -349,26 +421,42 @@ library_called library f args below config =
     (after (on_heap (library.call f args) config.world) (pushed config below)) config
 
 -- a call of what no host answers for
-abbrev pub called : Rows → List Code → Val → Callee → List Val → List Val → Config → Step
-called library codes of (Defined f) values below config =
-    entered_of codes f (function_entry codes f.file f.function) values below config
-called library codes of (OfHost object method) values below config = faults fault.Kind config
-called library codes of OfLibrary values below config =
-    library_called library of (by_position values) below config
-called library codes of Nothing values below config = faults fault.Kind config
+abbrev pub called : Rows → List Code → Val → Callee → Args → List Val → Config → Step
+called library codes of (Defined f defaults) args below config =
+    entered_of library codes f defaults (function_entry codes f.file f.function) args below config
+called library codes of (OfHost object method) args below config = faults fault.Kind config
+called library codes of OfLibrary args below config = library_called library of args below config
+called library codes of Nothing args below config = faults fault.Kind config
 
 -- a call of the value below so many arguments
 abbrev pub called_below : Rows → List Code → ℕ → Config → Step
 called_below library codes count config =
     on_many config (taken count [] config.stack) (λ values below.
     on_one config below (λ f rest.
-    called library codes f (callee_of config.world.heap f) values rest config))
+    called library codes f (callee_of config.world.heap f) (by_position values) rest config))
+
+-- no arguments are gathered
+abbrev pub at_rest : Config → Config
+at_rest config = record config { gathered = no_args }
+
+-- a call of the top with the arguments that were gathered
+abbrev pub called_gathered : Rows → List Code → Config → Step
+called_gathered library codes config =
+    on_one config config.stack (λ f below.
+    called library codes f (callee_of config.world.heap f) config.gathered below
+    (at_rest config))
 
 -- a block ended
 abbrev pub block_ended : List Onward → Config → Step
 block_ended [] config = Goes (record config { doing = Leaves (exit.Return val.None) })
 block_ended (Behind rest ∷ onward) config =
     Goes (record config { doing = Runs rest; onward = onward })
+block_ended (Outwards scope rest ∷ onward) config =
+    Goes (record config {
+      doing = Runs rest;
+      onward = onward;
+      world = in_scope scope config.world;
+    })
 block_ended (Turns items over body place rest ∷ onward) config =
     turned items over body place rest onward config
 
@@ -380,6 +468,7 @@ returned value (caller ∷ callers) config =
       file = caller.file;
       doing = Runs caller.rest;
       stack = value ∷ caller.stack;
+      gathered = config.gathered;
       onward = caller.onward;
       callers = callers;
       running = drop 1 config.running;
@@ -414,6 +503,8 @@ out_of_loop exit.Continue items over body place rest onward config =
 abbrev pub left : Exit → List Onward → Config → Step
 left exit [] config = returned (given_by exit) config.callers config
 left exit (Behind rest ∷ onward) config = Goes (record config { onward = onward })
+left exit (Outwards scope rest ∷ onward) config =
+    Goes (record config { onward = onward; world = in_scope scope config.world })
 left exit (Turns items over body place rest ∷ onward) config =
     out_of_loop exit items over body place rest onward config
 
@@ -434,15 +525,23 @@ perform library codes (instr.Unary op) config = unary_done library op config
 perform library codes (instr.Binary op) config = binary_done library op config
 perform library codes (instr.Short wanted block) config = short codes wanted block config
 perform library codes (instr.If chosen other) config = branched codes chosen other config
+perform library codes (instr.Defaults function) config = defaulted codes function config
 perform library codes (instr.Def function) config = defined codes function config
 perform library codes (instr.Attr index) config =
     attribute_named (name_of codes config.file index) config
 perform library codes instr.Index config = indexed library config
 perform library codes instr.Slice config = sliced library config
 perform library codes (instr.Call count) config = called_below library codes count config
+perform library codes instr.CheckItems config = items_tested config
+perform library codes instr.CheckKeywords config = keywords_tested config
+perform library codes (instr.Gather shape) config = gathered_step codes shape config
+perform library codes instr.CallGathered config = called_gathered library codes config
 perform library codes instr.SetIndex config = index_put library config
 perform library codes (instr.Unpack count) config = unpacked_on count config
 perform library codes (instr.For body) config = looped codes body config
+perform library codes (instr.Within block) config = inwards codes block config
+perform library codes instr.Collect config = collected config
+perform library codes instr.CollectEntry config = entry_collected library config
 perform library codes instr.Return config = given_back config
 perform library codes instr.Break config = leaving exit.Break config
 perform library codes instr.Continue config = leaving exit.Continue config
@@ -450,5 +549,4 @@ perform library codes (instr.AugmentName op hops slot) config =
     name_augmented library op hops slot config
 perform library codes instr.Fetch config = fetched library config
 perform library codes (instr.AugmentIndex op) config = index_augmented library op config
-perform library codes instr.Unbuilt config = breaks reason.Unbuilt config
 perform library codes instr.NotAssignable config = faults fault.Kind config

@@ -5,13 +5,15 @@ ghost use Rattle.star_machine.specs.Outcomes.{Acted};
 ghost use Rattle.star_machine.specs.Steps as steps;
 ghost use Rattle.star_meaning.specs.Attributes as attributes;
 ghost use Rattle.std.specs.List.{list_any};
-ghost use Rattle.star_meaning.specs.Calls.{by_position, given_by, is_running, is_same};
+ghost use Rattle.star_meaning.specs.Calls.{given_by, is_running, is_same};
 
-use crate::machine::{Later, Machine, Next, Task, Turns, fault, of_fault};
+use crate::machine::{Later, Machine, Next, Task, Turns, fault, no_args, of_fault};
 use bz_text::{May, Mem, Miss, Seq};
 use sqlite_items::Items;
+use star_arguments::bind;
 use star_code::{Code, FnEntry};
 use star_core::{Args, Cell, Fault, Function, Heap, Stack, Val};
+use star_library::copy_of;
 use star_meaning::{Closure, Exit, Library, MOST_CALLS, Reason, Running};
 use std::alloc::Global;
 use std::mem;
@@ -36,6 +38,18 @@ fn closure_called(heap: &Heap, f: &Val) -> Option<Closure>
             around: function.around,
         }),
         _ => None,
+    }
+}
+
+/// The defaults of the function that a call of a value calls.
+#[tactic(auto, unfolding(star_meaning::specs::Attributes::callee_of))]
+fn defaults_called(alloc: Global, heap: &Heap, f: &Val) -> Mem<Seq<Val>>
+    ensures { IfOk result (λ defaults. defaults
+        ≡ attributes.defaults_called (attributes.callee_of heap.now f.now)) }
+{
+    match heap.cell(f) {
+        Some(Cell::Function(function)) => copy_of(alloc, function.defaults.items()),
+        _ => Ok(Seq::new(alloc)),
     }
 }
 
@@ -99,7 +113,7 @@ fn variables(alloc: Global, values: &[Val]) -> Mem<Items<Option<Val>>>
 }
 
 impl Machine {
-    /// A `def` or a `lambda` makes a function.
+    /// A `def` or a `lambda` makes a function, with its defaults.
     pub fn def(&mut self, codes: &[Code], function: u32) -> May<Next, Reason>
         ensures { Acted (steps.defined codes.now function (config_of codes.now self.old)) result
             (config_of codes.now self.new) }
@@ -107,20 +121,32 @@ impl Machine {
         let Some(entry) = entry_of(codes, self.task.file, function) else {
             return fault(Fault::Kind);
         };
-        if !entry.required {
-            return Err(Miss::Because(Reason::Unbuilt));
-        }
+        let Some(defaults) = self.task.stack.take_top(entry.optional)? else {
+            return fault(Fault::Kind);
+        };
         let name = entry.name.copy(self.alloc)?;
         let closure = Function {
             file: self.task.file,
             function,
             name,
-            defaults: Seq::new(self.alloc),
+            defaults: Seq::of_vec(defaults),
             around: self.task.scope,
         };
         let value = of_fault(self.heap.make(Cell::Function(closure)))?;
         self.task.stack.push(value)?;
         Ok(Next::On)
+    }
+
+    /// Runs the block of a function's defaults.
+    pub fn defaults(&mut self, codes: &[Code], function: u32) -> May<Next, Reason>
+        requires { self.old.leaving ≡ None }
+        ensures { Acted (steps.defaulted codes.now function (config_of codes.now self.old)) result
+            (config_of codes.now self.new) }
+    {
+        match entry_of(codes, self.task.file, function) {
+            None => fault(Fault::Kind),
+            Some(entry) => self.run_block(codes, entry.defaults),
+        }
     }
 
     /// Calls the value below so many arguments, for which no host answers.
@@ -140,11 +166,42 @@ impl Machine {
         let Some(f) = self.task.stack.pop() else {
             return fault(Fault::Kind);
         };
+        let args = Args {
+            positional: Seq::of_vec(values),
+            named: Seq::new(self.alloc),
+        };
+        self.call_value(codes, library, f, args)
+    }
+
+    /// Calls the top with the arguments that were gathered.
+    pub fn call_gathered<L: Library>(&mut self, codes: &[Code], library: &L) -> May<Next, Reason>
+        requires { self.old.leaving ≡ None }
+        ensures { Acted (steps.called_gathered L.rows codes.now (config_of codes.now self.old))
+            result (config_of codes.now self.new) }
+    {
+        let Some(f) = self.task.stack.pop() else {
+            return fault(Fault::Kind);
+        };
+        let args = mem::replace(&mut self.gathered, no_args(self.alloc));
+        self.call_value(codes, library, f, args)
+    }
+
+    /// Calls a value for which no host answers.
+    fn call_value<L: Library>(
+        &mut self,
+        codes: &[Code],
+        library: &L,
+        f: Val,
+        args: Args,
+    ) -> May<Next, Reason>
+        requires { self.old.leaving ≡ None }
+        ensures { Acted (steps.called L.rows codes.now f (attributes.callee_of self.old.heap f) args
+            self.old.task.stack (config_of codes.now self.old)) result
+            (config_of codes.now self.new) }
+    {
         match closure_called(&self.heap, &f) {
-            Some(closure) => self.call_closure(codes, closure, values.as_slice()),
-            None if calls_library(&self.heap, &f) => {
-                self.call_library(codes, library, f, Seq::of_vec(values))
-            }
+            Some(closure) => self.call_closure(codes, library, f, closure, args),
+            None if calls_library(&self.heap, &f) => self.call_library(codes, library, f, args),
             None => fault(Fault::Kind),
         }
     }
@@ -155,16 +212,11 @@ impl Machine {
         codes: &[Code],
         library: &L,
         f: Val,
-        values: Seq<Val>,
+        args: Args,
     ) -> May<Next, Reason>
-        ensures { Acted (steps.library_called L.rows f (by_position values)
-            self.old.task.stack (config_of codes.now self.old)) result
-            (config_of codes.now self.new) }
+        ensures { Acted (steps.library_called L.rows f args self.old.task.stack
+            (config_of codes.now self.old)) result (config_of codes.now self.new) }
     {
-        let args = Args {
-            positional: values,
-            named: Seq::new(self.alloc),
-        };
         if library.calls_back(&self.heap, &f, &args) {
             return Err(Miss::Because(Reason::Unbuilt));
         }
@@ -173,19 +225,37 @@ impl Machine {
         Ok(Next::On)
     }
 
-    fn call_closure(&mut self, codes: &[Code], f: Closure, values: &[Val]) -> May<Next, Reason>
+    /// The arguments are bound first.
+    fn call_closure<L: Library>(
+        &mut self,
+        codes: &[Code],
+        library: &L,
+        f: Val,
+        closure: Closure,
+        args: Args,
+    ) -> May<Next, Reason>
         requires { self.old.leaving ≡ None }
-        ensures { Acted (steps.entered_of codes.now f
-            (steps.function_entry codes.now f.file f.function) values.now self.old.task.stack
+        ensures { Acted (steps.entered_of L.rows codes.now closure
+            (attributes.defaults_called (attributes.callee_of self.old.heap f))
+            (steps.function_entry codes.now closure.file closure.function) args self.old.task.stack
             (config_of codes.now self.old)) result (config_of codes.now self.new) }
     {
-        match entry_of(codes, f.file, f.function) {
-            None => fault(Fault::Kind),
-            Some(entry) => self.enter_bound(codes, f, entry, values),
-        }
+        let Some(entry) = entry_of(codes, closure.file, closure.function) else {
+            return fault(Fault::Kind);
+        };
+        let defaults = defaults_called(self.alloc, &self.heap, &f)?;
+        let values = of_fault(bind(
+            self.alloc,
+            library,
+            &mut self.heap,
+            entry.params.as_slice(),
+            defaults.items(),
+            &args,
+        ))?;
+        self.enter_bound(codes, closure, entry, values.items())
     }
 
-    /// As many arguments as parameters; then no call of the function may run, and not too many.
+    /// No call of the function may run, and not too many calls.
     fn enter_bound(
         &mut self,
         codes: &[Code],
@@ -201,9 +271,6 @@ impl Machine {
             file: f.file,
             function: f.function,
         };
-        if values.len() != entry.params {
-            return fault(Fault::Arity);
-        }
         if runs(function, &self.running) {
             return fault(Fault::Recursion);
         }
@@ -254,6 +321,16 @@ impl Machine {
         match self.task.later.pop() {
             None => self.finish(codes, given(exit)),
             Some(Later::Behind { block: _, next: _ }) => Ok(Next::On),
+            Some(
+                Later::Outwards {
+                    scope,
+                    block: _,
+                    next: _,
+                },
+            ) => {
+                self.task.scope = scope;
+                Ok(Next::On)
+            }
             Some(Later::Turns(turns)) => self.leave_loop(codes, exit, turns),
         }
     }

@@ -8,12 +8,14 @@
 //! Limits: 64 running calls; the count of steps is refused where it reaches its limit.
 #![tactic(auto)]
 
+pub mod arguments;
 pub mod attributes;
 pub mod calls;
+pub mod comprehensions;
 pub mod machine;
 pub mod operators;
 pub mod perform;
 pub mod statements;
 
 pub use attributes::name_of;
-pub use machine::{Later, Machine, Next, Task, Turns};
+pub use machine::{Later, Machine, Next, Task, Turns, no_args};

@@ -3,17 +3,27 @@ ghost use Rattle.std.specs.Prelude.{◌≡◌, IfOk, OnErr, OnOk};
 ghost use Rattle.star_machine.specs.Configs.{config_of};
 ghost use Rattle.star_machine.specs.Outcomes.{Acted, by_fault};
 ghost use Rattle.star_machine.specs.Steps as steps;
+ghost use Rattle.star_meaning.specs.Arguments as arguments;
 
-use bz_text::{May, Mem, Miss};
+use bz_text::{May, Mem, Miss, Seq};
 use star_code::Code;
-use star_core::{Fault, Heap, Scopes, Stack, Val};
+use star_core::{Args, Fault, Heap, Scopes, Stack, Val};
 use star_meaning::{Exit, Place, Reason, Running};
 use std::alloc::Global;
 
-/// What goes on where a block ends: the block behind it, or the turns of a loop.
+/// What goes on where a block ends: the block behind it, the same in the scope round it, or the turns
+/// of a loop.
 #[derive(Drop)]
 pub enum Later {
-    Behind { block: usize, next: usize },
+    Behind {
+        block: usize,
+        next: usize,
+    },
+    Outwards {
+        scope: usize,
+        block: usize,
+        next: usize,
+    },
     Turns(Turns),
 }
 
@@ -41,10 +51,12 @@ pub struct Task {
     pub place: Option<Place>,
 }
 
-/// An evaluation that stopped between two steps.
+/// An evaluation that stopped between two steps. `gathered` holds arguments between two
+/// instructions alone: the one that gathers them, and the call.
 #[derive(Drop)]
 pub struct Machine {
     pub task: Task,
+    pub gathered: Args,
     pub callers: Stack<Task>,
     pub leaving: Option<Exit>,
     pub running: Stack<Running>,
@@ -60,6 +72,16 @@ pub struct Machine {
 pub enum Next {
     On,
     Done(Val),
+}
+
+/// No arguments.
+pub fn no_args(alloc: Global) -> Args
+    ensures { result ≡ arguments.no_args }
+{
+    Args {
+        positional: Seq::new(alloc),
+        named: Seq::new(alloc),
+    }
 }
 
 /// The same answer with its fault as a reason.

@@ -5,7 +5,7 @@ ghost use Rattle.star_machine.specs.Outcomes.{Acted};
 ghost use Rattle.star_machine.specs.Steps as steps;
 
 use crate::machine::{Machine, Next, fault};
-use bz_text::{May, Miss};
+use bz_text::May;
 use star_code::{Code, Instr};
 use star_core::Fault;
 use star_meaning::{Exit, Library, Reason};
@@ -39,14 +39,22 @@ impl Machine {
             Instr::Binary(op) => self.binary(codes, library, op),
             Instr::Short { wanted, block } => self.short(codes, wanted, block),
             Instr::If { chosen, other } => self.branch(codes, chosen, other),
+            Instr::Defaults(function) => self.defaults(codes, function),
             Instr::Def(function) => self.def(codes, function),
             Instr::Attr(index) => self.attribute(codes, index),
             Instr::Index => self.index(codes, library),
             Instr::Slice => self.slice(codes, library),
             Instr::Call(count) => self.call(codes, library, count),
+            Instr::CheckItems => self.check_items(codes),
+            Instr::CheckKeywords => self.check_keywords(codes),
+            Instr::Gather(shape) => self.gather(codes, shape),
+            Instr::CallGathered => self.call_gathered(codes, library),
             Instr::SetIndex => self.set_index(codes, library),
             Instr::Unpack(count) => self.unpack(codes, count),
             Instr::For(body) => self.walk(codes, body),
+            Instr::Within(block) => self.go_within(codes, block),
+            Instr::Collect => self.collect(codes),
+            Instr::CollectEntry => self.collect_entry(codes, library),
             Instr::Return => self.give_back(codes),
             Instr::Break => self.leave_by(codes, Exit::Break),
             Instr::Continue => self.leave_by(codes, Exit::Continue),
@@ -55,7 +63,6 @@ impl Machine {
             }
             Instr::Fetch => self.fetch(codes, library),
             Instr::AugmentIndex(op) => self.augment_index(codes, library, op),
-            Instr::Unbuilt => Err(Miss::Because(Reason::Unbuilt)),
             Instr::NotAssignable => fault(Fault::Kind),
         }
     }

@@ -186,7 +186,7 @@ impl Machine {
 
     /// A block is run, and then what is left of this one.
     #[tactic(auto, unfolding(crate::specs::Configs::left_of))]
-    fn run_block(&mut self, codes: &[Code], block: usize) -> May<Next, Reason>
+    pub(crate) fn run_block(&mut self, codes: &[Code], block: usize) -> May<Next, Reason>
         requires { self.old.leaving ≡ None }
         ensures { Acted (steps.into_block (config_of codes.now self.old)
             (block_of codes.now self.old.task.file block) self.old.task.stack) result
@@ -317,6 +317,12 @@ impl Machine {
                 Ok(Next::On)
             }
             Some(Later::Behind { block, next }) => {
+                self.task.block = block;
+                self.task.next = next;
+                Ok(Next::On)
+            }
+            Some(Later::Outwards { scope, block, next }) => {
+                self.task.scope = scope;
                 self.task.block = block;
                 self.task.next = next;
                 Ok(Next::On)

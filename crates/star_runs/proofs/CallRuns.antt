@@ -1,45 +1,55 @@
 -- Calls do what they mean, however many more may run; and so does a file.
-use Rattle.std.proofs.Common.{◌≡◌, ◌∙◌, ap, refl, sym, subst, arith, ℕ, zero, suc, ◌+◌, ◌==◌, Bool, true}
+use Rattle.std.proofs.Common.{◌≡◌, ◌∙◌, ap, refl, sym, subst, arith, ℕ, zero, suc, ◌+◌, ◌≤◌, Bool, true}
 use Rattle.std.proofs.Common.{false, nat_lt, if◌then◌else◌, List, [], ◌∷◌, length, map, Option, Some}
 use Rattle.std.proofs.Common.{None, slice_get, reverse, ◌++◌}
-use Rattle.std.proofs.lemmas.Bool.{lt-leb, lt-ltb}
-use Rattle.star_code.specs.Codes.{BodyCode, BothCoded, FileCoded, FilesCoded, FnCoded, PairCoded}
-use Rattle.star_code.specs.Codes.{Tables, tables_of}
+use Rattle.std.proofs.lemmas.Bool.{lt-leb, lt-ltb, ltb-false}
+use Rattle.std.proofs.lemmas.Option.{slice_get_past}
+use Rattle.star_code.specs.Codes.{BodyCode, BothCoded, FileCoded, FilesCoded, FnCoded, MakeCode}
+use Rattle.star_code.specs.Codes.{PairCoded, Tables, from_function, tables_of}
 use Rattle.star_code.specs.declared.code.Code.{Code}
 use Rattle.star_code.specs.declared.code.FnEntry.{FnEntry}
 use Rattle.star_code.specs.declared.code.Instr.{Instr}
 use Rattle.star_code.specs.declared.code.Instr.TheVariants as instr
+use Rattle.star_core.specs.Conditions.{printed_name}
 use Rattle.star_core.specs.Hosts.{HostCall, Meaning, Method}
 use Rattle.star_core.specs.Stacks.{taken}
 use Rattle.star_core.specs.Tables.{Table}
 use Rattle.star_core.specs.declared.faults.Fault.TheVariants as fault
+use Rattle.star_core.specs.declared.values.Args.{Args}
 use Rattle.star_core.specs.declared.values.Val.{Val}
 use Rattle.star_core.specs.declared.values.Val.TheVariants as val
-use Rattle.star_machine.specs.Configs.{Caller, Config, Onward, block_of, or_nothing}
-use Rattle.star_machine.specs.Steps.{called, entered, entered_if, entered_of, faults, function_entry}
-use Rattle.star_machine.specs.Steps.{after, library_if, on_many, perform, pushed, returned, waiting}
+use Rattle.star_machine.specs.Configs.{Behind, Caller, Config, Onward, block_of, or_nothing}
+use Rattle.star_machine.specs.Steps.{after, called, defaulted_of, defined_of, entered, entered_if}
+use Rattle.star_machine.specs.Steps.{entered_of, faults, function_entry, library_if, perform, pushed}
+use Rattle.star_machine.specs.Steps.{returned, waiting}
+use Rattle.star_meaning.specs.Arguments.{by_position, no_args}
 use Rattle.star_meaning.specs.Attributes.{Callee, Defined, Nothing, OfHost, OfLibrary, callee_of}
-use Rattle.star_meaning.specs.Calls.{Run as BodyRun, back, body_value, by_position, call_bound}
-use Rattle.star_meaning.specs.Calls.{call_callee, library_call, library_if as meant_if}
-use Rattle.star_meaning.specs.Calls.{call_code, call_in, call_meaning, call_value, calls, ended, file_meaning}
-use Rattle.star_meaning.specs.Calls.{flow_value, given_by, is_running, run_body, running_of, setting}
-use Rattle.star_meaning.specs.Calls.{value_of}
-use Rattle.star_meaning.specs.Expressions.{Program, Setting}
+use Rattle.star_meaning.specs.Calls.{Run as BodyRun, back, bare_setting, body_value, call_callee}
+use Rattle.star_meaning.specs.Calls.{call_code, call_in, call_meaning, call_value, calls, ended}
+use Rattle.star_meaning.specs.Calls.{file_meaning, flow_value, given_by, is_running, library_call}
+use Rattle.star_meaning.specs.Calls.{library_if as meant_if, run_body, run_if, running_of, setting}
+use Rattle.star_meaning.specs.Calls.{setting_with, value_of}
+use Rattle.star_meaning.specs.Expressions.{Program, Setting, closure, functions_made, made_with}
+use Rattle.star_meaning.specs.Expressions.{meaning}
 use Rattle.star_meaning.specs.Libraries.{Rows}
-use Rattle.star_meaning.specs.Results.{Done, Gives, M, Outcome, Res, Stops, fail, lift, refuse}
-use Rattle.star_meaning.specs.Statements.{Flow, body_meaning}
-use Rattle.star_meaning.specs.Worlds.{Work, World, on_heap, opened}
+use Rattle.star_meaning.specs.Loops.{Flow}
+use Rattle.star_meaning.specs.Parameters.{bound, defaults_of, formal_of}
+use Rattle.star_meaning.specs.Results.{Done, Gives, M, Outcome, Res, Stops, each, fail, lift}
+use Rattle.star_meaning.specs.Statements.{body_meaning}
+use Rattle.star_meaning.specs.Worlds.{Work, World, line_of, on_heap, opened}
 use Rattle.star_meaning.specs.declared.reasons.Closure.{Closure}
 use Rattle.star_meaning.specs.declared.reasons.Exit.{Exit}
 use Rattle.star_meaning.specs.declared.reasons.Exit.TheVariants as exit
-use Rattle.star_meaning.specs.declared.reasons.Reason.TheVariants as reason
 use Rattle.star_meaning.specs.declared.reasons.Running.{Running}
 use Rattle.star_meaning.specs.declared.reasons.TheConstants.{MOST_CALLS}
-use Rattle.star_runs.proofs.Combine.{Leads, Run, conf, finish, last_leads, leaves, step}
-use Rattle.star_runs.proofs.ExprRuns.{CallServes, expr_serves, reply_leads}
-use Rattle.star_runs.proofs.Instructions.{call_step, return_step}
-use Rattle.star_runs.proofs.Tops.{taken_top}
+use Rattle.star_runs.proofs.Combine.{Leads, Run, after_leads, bind_runs, conf, finish, last_leads}
+use Rattle.star_runs.proofs.Combine.{leaves, step}
+use Rattle.star_runs.proofs.ExprRuns.{CallServes, ExprServes, MakesServe, called_performed}
+use Rattle.star_runs.proofs.ExprRuns.{expr_serves, exprs_serve, kind_serves_value, many_leads}
+use Rattle.star_runs.proofs.ExprRuns.{reply_leads}
+use Rattle.star_runs.proofs.Instructions.{call_step, def_step, defaults_step, return_step}
 use Rattle.star_runs.proofs.StmtRuns.{stmts_serve}
+use Rattle.star_runs.proofs.Tops.{taken_top}
 use Rattle.star_runs.specs.Runs.{call_begun, call_wanted, instructed, method_wanted, went}
 use Rattle.star_trees.specs.declared.files.FnBody.{FnBody}
 use Rattle.star_trees.specs.declared.files.FnCode.{FnCode}
@@ -68,14 +78,6 @@ module _ {H : Type 0} (does : Meaning H HostCall) (library : Rows) (codes : List
       → function_entry codes file function ≡ None
   unfolding function_entry
   no_entry file function here = rw here refl
-
-  performed : (count : ℕ) (values below : List Val) (f : Val) (callee : Callee) (config : Config)
-      → taken count [] config.stack ≡ Some (values, f ∷ below)
-      → callee_of config.world.heap f ≡ callee
-      → perform library codes (instr.Call count) config
-      ≡ called library codes f callee values below config
-  unfolding perform
-  performed count values below f callee config there is = rw (there, is) refl
 
   library_leads : (calls_back : Bool) (work : World → Work Val) (config : Config)
       (below : List Val) (host : H) (K : Val → World → H → Outcome H)
@@ -109,46 +111,184 @@ module _ {H : Type 0} (does : Meaning H HostCall) (library : Rows) (codes : List
   ended_runs (Gives v w h) config host runs = runs
   ended_runs (Stops outcome) config host runs = runs
 
+  -- making a function, whose defaults are evaluated first
+  module _ (file : ℕ) (running : List Running) (program : Program) (this : Code)
+      (here : slice_get codes file ≡ Some this) (coded : FileCoded program this)
+      (call : Val → Args → M H Val) (calls_serve : CallServes does library codes answers file running call)
+    where
+      abbrev bare : Setting H
+      bare = bare_setting does answers library file program call
+
+      abbrev tables_from : ℕ → Tables
+      tables_from least = from_function least (tables_of this program.literals)
+
+      abbrev Makes : ℕ → (ℕ → M H Val) → Type 0
+      Makes least make = MakesServe does library codes answers file running (tables_from least) make
+
+      abbrev Serves : List Instr → List Instr → M H Val → Type 0
+      Serves is rest m = ExprServes does library codes answers file running is rest m
+
+      no_entry_here : (function : ℕ) (tree : Option FnCode) (entry : Option FnEntry)
+          → tree ≡ None
+          → BothCoded (tables_of this program.literals) function tree entry
+          → entry ≡ None
+      no_entry_here function None None none both = refl
+      no_entry_here function None (Some entry) none both = absurd both
+      no_entry_here function (Some tree) entry none both = absurd (cc)
+
+      one_later : (count least function : ℕ)
+          → length program.tree.functions ≤ suc count + least
+          → nat_lt function least ≡ false
+          → length program.tree.functions ≤ count + suc function
+      one_later count least function fits may =
+          omega (arith, fits, ltb-false function least may)
+
+      past_all : (least function : ℕ)
+          → length program.tree.functions ≤ 0 + least
+          → nat_lt function least ≡ false
+          → slice_get program.tree.functions function ≡ None
+      past_all least function fits may =
+          slice_get_past program.tree.functions function
+          (omega (arith, fits, ltb-false function least may))
+
+      none_leads : (function : ℕ)
+          → slice_get this.functions function ≡ None
+          → (rest : List Instr)
+          → Serves (instr.Defaults function ∷ instr.Def function ∷ rest) rest (fail fault.Kind)
+      none_leads function at rest =
+          record {
+            runs = λ stack onward callers world host K next.
+                defaults_step does library codes answers file running (instr.Def function ∷ rest) stack
+                onward callers world host _ function
+                (subst (λ o. Leads does library codes answers (went (defaulted_of codes o
+                (conf file running (instr.Def function ∷ rest) stack onward callers world)) host)
+                (finish (fail {A = Val} fault.Kind world host) K))
+                (sym (entry_of file function this here ∙ at)) refl);
+          }
+
+      made_leads : (function : ℕ) (make : ℕ → M H Val) (makes : Makes (suc function) make)
+          (tree : Option FnCode) (entry : Option FnEntry)
+          → slice_get this.functions function ≡ entry
+          → BothCoded (tables_of this program.literals) function tree entry
+          → (rest : List Instr)
+          → Serves (instr.Defaults function ∷ instr.Def function ∷ rest) rest
+          (made_with function tree (record bare { make = make }))
+      made_leads function make makes None None at both rest = none_leads function at rest
+      made_leads function make makes None (Some entry) at both rest = absurd both
+      made_leads function make makes (Some tree) None at both rest = absurd both
+      made_leads function make makes (Some tree) (Some entry) at both rest =
+          record {
+            runs = λ stack onward callers world host K next.
+                defaults_step does library codes answers file running (instr.Def function ∷ rest) stack
+                onward callers world host _ function
+                (subst (λ o. Leads does library codes answers (went (defaulted_of codes o
+                (conf file running (instr.Def function ∷ rest) stack onward callers world)) host)
+                (finish (made_with function (Some tree) (record bare { make = make }) world host) K))
+                (sym (entry_of file function this here ∙ at))
+                (subst (λ b. RunTo (conf file running b stack
+                (Behind (instr.Def function ∷ rest) ∷ onward) callers world) host
+                (finish (made_with function (Some tree) (record bare { make = make }) world host) K))
+                (sym (there_of file this here entry.defaults both.defaults both.defaults_there))
+                (bind_runs does library codes answers
+                (each (map (λ default. default.value (record bare { make = make }))
+                (map meaning (defaults_of tree.params))) world host)
+                (λ defaults. lift (closure file function (printed_name tree.name) defaults)) K _ host
+                ((exprs_serve does library codes answers file running program this here call
+                calls_serve (suc function) make makes both.on_defaults).runs stack
+                (Behind (instr.Def function ∷ rest) ∷ onward) callers world host _ (λ vs w h long.
+                step does library codes answers _ h _
+                (def_step does library codes answers file running rest (reverse vs ++ stack) onward
+                callers w h _ function
+                (subst (λ o. Leads does library codes answers (went (defined_of function o
+                (conf file running rest (reverse vs ++ stack) onward callers w)) h)
+                (finish (lift (closure file function (printed_name tree.name) vs) w h) K))
+                (sym (entry_of file function this here ∙ at))
+                (rw (both.name)
+                (many_leads does library codes answers file running
+                (conf file running rest (reverse vs ++ stack) onward callers w)
+                (taken entry.optional [] (reverse vs ++ stack)) vs stack
+                (λ defaults below. after (closure file function (printed_name tree.name) defaults w)
+                (pushed (conf file running rest (reverse vs ++ stack) onward callers w) below)) h _
+                (taken_top entry.optional vs stack (long ∙ sym both.optional))
+                (last_leads does library codes answers
+                (closure file function (printed_name tree.name) vs w)
+                (pushed (conf file running rest (reverse vs ++ stack) onward callers w) stack) h K
+                (λ v w2. next v w2 h)))))))))));
+          }
+
+      refused_make : (function : ℕ) (rest : List Instr) (m : M H Val)
+          → m ≡ fail fault.Kind
+          → Serves (instr.NotAssignable ∷ rest) rest m
+      refused_make function rest m is =
+          subst (λ x. Serves (instr.NotAssignable ∷ rest) rest x) (sym is)
+          (kind_serves_value does library codes answers file running rest)
+
+      make_serves : (count least : ℕ)
+          → length program.tree.functions ≤ count + least
+          → {function : ℕ} {rest is : List Instr}
+          → MakeCode (tables_from least) function rest is
+          → Serves is rest (functions_made count least bare function)
+      unfolding functions_made
+      make_serves zero least fits {function} {rest} (MakeCode.may may) =
+          none_leads function (no_entry_here function (slice_get program.tree.functions function)
+          (slice_get this.functions function) (past_all least function fits may)
+          (coded.functions function)) rest
+      make_serves zero least fits {function} {rest} (MakeCode.may_not may_not) =
+          refused_make function rest _ refl
+      make_serves (suc count) least fits {function} {rest} (MakeCode.may may) =
+          subst (λ b. Serves (instr.Defaults function ∷ instr.Def function ∷ rest) rest
+          (if b then fail fault.Kind
+          else made_with function (slice_get program.tree.functions function)
+          (record bare { make = functions_made count (suc function) bare }))) (sym may)
+          (made_leads function (functions_made count (suc function) bare)
+          (record {
+            serves = λ {function} {rest} {is} on_make.
+                make_serves count (suc _) (one_later count least _ fits may) on_make;
+          })
+          (slice_get program.tree.functions function) (slice_get this.functions function) refl
+          (coded.functions function) rest)
+      make_serves (suc count) least fits {function} {rest} (MakeCode.may_not may_not) =
+          refused_make function rest _ (ap (λ b. if b then fail fault.Kind
+          else made_with function (slice_get program.tree.functions function)
+          (record bare { make = functions_made count (suc function) bare })) may_not)
+
+      pub file_makes : Makes 0 (functions_made (length program.tree.functions) 0 bare)
+      file_makes =
+          record {
+            serves = λ {function} {rest} {is} on_make.
+                make_serves (length program.tree.functions) 0 (omega arith) on_make;
+          }
+
   -- a body of a function, from its block's beginning to what its caller does with its value
   body_runs : (file : ℕ) (running : List Running) (program : Program) (this : Code)
       (here : slice_get codes file ≡ Some this) (coded : FileCoded program this)
-      (call : Val → List Val → M H Val)
+      (call : Val → Args → M H Val)
       → CallServes does library codes answers file running call
       → (of : FnBody) (block : List Instr)
-      → BodyCode (tables_of this program.literals) of block
+      → BodyCode (from_function 0 (tables_of this program.literals)) of block
       → (callers : List Caller) (world : World) (host : H) (K : Val → World → H → Outcome H)
       → ((v : Val) (out : Exit) (stack : List Val) (w : World) (h : H)
       → Leads does library codes answers
       (went (returned v callers (leaves file running out stack [] callers w)) h) (K v w h))
       → RunTo (conf file running block [] [] callers world) host
-      (finish (body_value of (record {
-        does = does;
-        answers = answers;
-        library = library;
-        file = file;
-        program = program;
-        call = call;
-      }) world host) K)
+      (finish (body_value of (setting_with does answers library file program call) world host) K)
   body_runs file running program this here coded call calls_serve of block (BodyCode.block {stmts} {code}
       on_stmts) callers world host K next =
-      flow_runs (body_meaning stmts (record {
-        does = does;
-        answers = answers;
-        library = library;
-        file = file;
-        program = program;
-        call = call;
-      }) world host) K _ host
-      ((stmts_serve does library codes answers file running program this here coded call calls_serve
-      on_stmts).runs [] [] callers world host (λ flow w h. K (value_of flow) w h) (record {
+      flow_runs (body_meaning stmts (setting_with does answers library file program call) world host) K _ host
+      ((stmts_serve does library codes answers file running program this here call calls_serve 0
+      (functions_made (length program.tree.functions) 0
+      (bare_setting does answers library file program call))
+      (file_makes file running program this here coded call calls_serve) on_stmts).runs [] [] callers world host (λ flow w h. K (value_of flow) w h) (record {
         next = λ w h. step does library codes answers _ h _ (step does library codes answers _ h _
             (next val.None (exit.Return val.None) [] w h));
         left = λ out w h. step does library codes answers _ h _ (next (given_by out) out [] w h);
       }))
   body_runs file running program this here coded call calls_serve of block (BodyCode.value {of = value} {code}
       on_value) callers world host K next =
-      (expr_serves does library codes answers file running program this here coded call calls_serve
-      on_value).runs [] [] callers world host K (λ v w h.
+      (expr_serves does library codes answers file running program this here call calls_serve 0
+      (functions_made (length program.tree.functions) 0
+      (bare_setting does answers library file program call))
+      (file_makes file running program this here coded call calls_serve) on_value).runs [] [] callers world host K (λ v w h.
       return_step does library codes answers file running [] (v ∷ []) [] callers w h _
       (step does library codes answers _ h _ (next v (exit.Return v) [] w h)))
 
@@ -158,7 +298,7 @@ module _ {H : Type 0} (does : Meaning H HostCall) (library : Rows) (codes : List
         → slice_get codes f.file ≡ Some this
         → FileCoded program this
         → (tree : FnCode) (entry : FnEntry)
-        → FnCoded (tables_of this program.literals) tree entry
+        → FnCoded (tables_of this program.literals) f.function tree entry
         → (values stack below : List Val) (rest : List Instr) (onward : List Onward)
         (callers : List Caller) (world : World) (host : H) (K : Val → World → H → Outcome H)
         → ((v : Val) (w : World) (h : H)
@@ -175,136 +315,129 @@ module _ {H : Type 0} (does : Meaning H HostCall) (library : Rows) (codes : List
           → slice_get codes f.file ≡ Some this
           → FileCoded program this
           → (tree : FnCode) (entry : FnEntry)
-          → FnCoded (tables_of this program.literals) tree entry
-          → (fits runs_already : Bool)
+          → FnCoded (tables_of this program.literals) f.function tree entry
+          → (runs_already : Bool)
           → (values stack below : List Val) (rest : List Instr) (onward : List Onward)
           (callers : List Caller) (world : World) (host : H) (K : Val → World → H → Outcome H)
           → ((v : Val) (w : World) (h : H)
           → RunTo (conf file running rest (v ∷ below) onward callers w) h (K v w h))
-          → Leads does library codes answers (went (if fits
-          then (if runs_already
+          → Leads does library codes answers (went (if runs_already
           then faults fault.Recursion (conf file running rest stack onward callers world)
           else (if nat_lt (length running) MOST_CALLS
           then entered codes f entry.block values below
           (conf file running rest stack onward callers world)
-          else faults fault.Depth (conf file running rest stack onward callers world)))
-          else faults fault.Arity (conf file running rest stack onward callers world)) host)
-          (finish ((if fits
-          then (if runs_already
+          else faults fault.Depth (conf file running rest stack onward callers world))) host)
+          (finish ((if runs_already
           then fail fault.Recursion
-          else run (running_of f) f.around program tree values)
-          else fail fault.Arity) world host) K)
-      bound_leads f program this here coded tree entry on_entry false runs_already values stack below rest
-          onward callers world host K next = refl
-      bound_leads f program this here coded tree entry on_entry true true values stack below rest onward
+          else run (running_of f) f.around program tree values) world host) K)
+      bound_leads f program this here coded tree entry on_entry true values stack below rest onward
           callers world host K next = refl
-      bound_leads f program this here coded tree entry on_entry true false values stack below rest onward
+      bound_leads f program this here coded tree entry on_entry false values stack below rest onward
           callers world host K next =
           runs.serves f program this here coded tree entry on_entry values stack below rest onward callers
           world host K next
 
-      code_leads : (f : Closure) (program : Program) (this : Code)
+      code_leads : (f : Closure) (defaults : List Val) (program : Program) (this : Code)
           → slice_get codes f.file ≡ Some this
           → FileCoded program this
           → (tree : Option FnCode) (entry : Option FnEntry)
-          → BothCoded (tables_of this program.literals) tree entry
-          → (values stack below : List Val) (rest : List Instr) (onward : List Onward)
+          → BothCoded (tables_of this program.literals) f.function tree entry
+          → (args : Args) (stack below : List Val) (rest : List Instr) (onward : List Onward)
           (callers : List Caller) (world : World) (host : H) (K : Val → World → H → Outcome H)
           → ((v : Val) (w : World) (h : H)
           → RunTo (conf file running rest (v ∷ below) onward callers w) h (K v w h))
-          → Leads does library codes answers (went (entered_of codes f entry values below
-          (conf file running rest stack onward callers world)) host)
-          (finish (call_code run running f program tree values world host) K)
-      code_leads f program this here coded None None both values stack below rest onward callers world host
-          K next = refl
-      code_leads f program this here coded None (Some entry) both values stack below rest onward callers
-          world host K next = absurd both
-      code_leads f program this here coded (Some tree) None both values stack below rest onward callers world
-          host K next = absurd both
-      code_leads f program this here coded (Some tree) (Some entry) both values stack below rest onward
-          callers world host K next =
-          subst (λ n. Leads does library codes answers (went (if length values == n
-          then (if is_running (running_of f) running
-          then faults fault.Recursion (conf file running rest stack onward callers world)
-          else (if nat_lt (length running) MOST_CALLS
-          then entered codes f entry.block values below
-          (conf file running rest stack onward callers world)
-          else faults fault.Depth (conf file running rest stack onward callers world)))
-          else faults fault.Arity (conf file running rest stack onward callers world)) host)
-          (finish (call_code run running f program (Some tree) values world host) K))
+          → Leads does library codes answers (went (entered_of library codes f defaults entry args
+          below (conf file running rest stack onward callers world)) host)
+          (finish (call_code library run running f defaults program tree args world host) K)
+      code_leads f defaults program this here coded None None both args stack below rest onward callers
+          world host K next = refl
+      code_leads f defaults program this here coded None (Some entry) both args stack below rest onward
+          callers world host K next = absurd both
+      code_leads f defaults program this here coded (Some tree) None both args stack below rest onward
+          callers world host K next = absurd both
+      code_leads f defaults program this here coded (Some tree) (Some entry) both args stack below rest
+          onward callers world host K next =
+          subst (λ formals. Leads does library codes answers (went (after
+          (on_heap (bound library formals defaults args) world)
+          (λ values w. entered_if codes f entry values below
+          (conf file running rest stack onward callers w))) host)
+          (finish (call_code library run running f defaults program (Some tree) args world host) K))
           (sym both.params)
-          (bound_leads f program this here coded tree entry both (length values == length tree.params)
-          (is_running (running_of f) running) values stack below rest onward callers world host K next)
+          (after_leads does library codes answers
+          (on_heap (bound library (map formal_of tree.params) defaults args) world)
+          (λ values w. entered_if codes f entry values below
+          (conf file running rest stack onward callers w))
+          (λ values. run_if run running f program tree values) host K
+          (λ values w. bound_leads f program this here coded tree entry both
+          (is_running (running_of f) running) values stack below rest onward callers w host K next))
 
-      program_leads : (f : Closure) (program : Option Program) (found : Option Code)
+      program_leads : (f : Closure) (defaults : List Val) (program : Option Program)
+          (found : Option Code)
           → slice_get codes f.file ≡ found
           → PairCoded program found
-          → (values stack below : List Val) (rest : List Instr) (onward : List Onward)
+          → (args : Args) (stack below : List Val) (rest : List Instr) (onward : List Onward)
           (callers : List Caller) (world : World) (host : H) (K : Val → World → H → Outcome H)
           → ((v : Val) (w : World) (h : H)
           → RunTo (conf file running rest (v ∷ below) onward callers w) h (K v w h))
-          → Leads does library codes answers (went (entered_of codes f
-          (function_entry codes f.file f.function) values below
+          → Leads does library codes answers (went (entered_of library codes f defaults
+          (function_entry codes f.file f.function) args below
           (conf file running rest stack onward callers world)) host)
-          (finish (call_in run running f program values world host) K)
-      program_leads f None None is both values stack below rest onward callers world host K next =
+          (finish (call_in library run running f defaults program args world host) K)
+      program_leads f defaults None None is both args stack below rest onward callers world host K next =
           rw (no_entry f.file f.function is) refl
-      program_leads f None (Some this) is both values stack below rest onward callers world host K next =
-          absurd both
-      program_leads f (Some program) None is both values stack below rest onward callers world host K next =
-          absurd both
-      program_leads f (Some program) (Some this) is both values stack below rest onward callers world host K
-          next =
-          subst (λ o. Leads does library codes answers (went (entered_of codes f o values below
-          (conf file running rest stack onward callers world)) host)
-          (finish (call_in run running f (Some program) values world host) K))
+      program_leads f defaults None (Some this) is both args stack below rest onward callers world host K
+          next = absurd both
+      program_leads f defaults (Some program) None is both args stack below rest onward callers world host
+          K next = absurd both
+      program_leads f defaults (Some program) (Some this) is both args stack below rest onward callers
+          world host K next =
+          subst (λ o. Leads does library codes answers (went (entered_of library codes f defaults o args
+          below (conf file running rest stack onward callers world)) host)
+          (finish (call_in library run running f defaults (Some program) args world host) K))
           (sym (entry_of f.file f.function this is))
-          (code_leads f program this is both (slice_get program.tree.functions f.function)
-          (slice_get this.functions f.function) (both.functions f.function) values stack below rest
+          (code_leads f defaults program this is both (slice_get program.tree.functions f.function)
+          (slice_get this.functions f.function) (both.functions f.function) args stack below rest
           onward callers world host K next)
 
       callee_leads : (programs : List Program)
           → FilesCoded programs codes
-          → (callee : Callee) (count : ℕ) (f : Val) (values below stack : List Val) (rest : List Instr)
-          (onward : List Onward) (callers : List Caller) (world : World) (host : H)
+          → (callee : Callee) (f : Val) (args gathered : Args) (i : Instr) (below stack : List Val)
+          (rest : List Instr) (onward : List Onward) (callers : List Caller) (world : World) (host : H)
           (K : Val → World → H → Outcome H)
-          → taken count [] stack ≡ Some (values, f ∷ below)
-          → callee_of world.heap f ≡ callee
+          → perform library codes i
+          (record (conf file running rest stack onward callers world) { gathered = gathered })
+          ≡ called library codes f callee args below
+          (conf file running rest stack onward callers world)
           → ((v : Val) (w : World) (h : H)
           → RunTo (conf file running rest (v ∷ below) onward callers w) h (K v w h))
           → Leads does library codes answers (instructed does library codes answers
-          (method_wanted callee values below) (instr.Call count)
-          (conf file running rest stack onward callers world) host)
-          (finish (call_callee does answers library programs run running f callee values world host) K)
-      callee_leads programs coded (OfHost object method) count f values below stack rest onward callers world
-          host K there is next =
+          (method_wanted callee args world.place below) i
+          (record (conf file running rest stack onward callers world) { gathered = gathered }) host)
+          (finish (call_callee does answers library programs run running f callee args world host) K)
+      callee_leads programs coded (OfHost object method) f args gathered i below stack rest onward callers
+          world host K is next =
           reply_leads does library codes answers file running
-          (does host world.heap (Method object method (record { positional = values; named = [] })) answers)
-          rest stack below onward callers world K next
-      callee_leads programs coded (Defined closure) count f values below stack rest onward callers world host
-          K there is next =
+          (does host world.heap (Method object method args (line_of world.place)) answers) gathered rest
+          stack below onward callers world K next
+      callee_leads programs coded (Defined closure defaults) f args gathered i below stack rest onward
+          callers world host K is next =
           subst (λ to. Leads does library codes answers (went to host)
-          (finish (call_in run running closure (slice_get programs closure.file) values world host) K))
-          (sym (performed count values below f _ (conf file running rest stack onward callers world) there
-          is))
-          (program_leads closure (slice_get programs closure.file) (slice_get codes closure.file) refl
-          (coded.each closure.file) values stack below rest onward callers world host K next)
-      callee_leads programs coded OfLibrary count f values below stack rest onward callers world host K there
+          (finish (call_in library run running closure defaults (slice_get programs closure.file) args
+          world host) K)) (sym is)
+          (program_leads closure defaults (slice_get programs closure.file)
+          (slice_get codes closure.file) refl (coded.each closure.file) args stack below rest onward
+          callers world host K next)
+      callee_leads programs coded OfLibrary f args gathered i below stack rest onward callers world host K
           is next =
           subst (λ to. Leads does library codes answers (went to host)
-          (finish (library_call library f (by_position values) world host) K))
-          (sym (performed count values below f _ (conf file running rest stack onward callers world) there
-          is))
-          (library_leads (library.calls_back f (by_position values) world.heap)
-          (on_heap (library.call f (by_position values)))
+          (finish (library_call library f args world host) K)) (sym is)
+          (library_leads (library.calls_back f args world.heap) (on_heap (library.call f args))
           (conf file running rest stack onward callers world) below host K
           (λ v w. next v w host))
-      callee_leads programs coded Nothing count f values below stack rest onward callers world host K there
-          is next =
+      callee_leads programs coded Nothing f args gathered i below stack rest onward callers world host K is
+          next =
           subst (λ to. Leads does library codes answers (went to host)
-          (finish (fail {A = Val} fault.Kind world host) K))
-          (sym (performed count values below f _ (conf file running rest stack onward callers world) there
-          is)) refl
+          (finish (fail {A = Val} fault.Kind world host) K)) (sym is) refl
 
       calls_serve_with : (programs : List Program)
           → FilesCoded programs codes
@@ -312,14 +445,9 @@ module _ {H : Type 0} (does : Meaning H HostCall) (library : Rows) (codes : List
           (call_value does answers library programs run running)
       calls_serve_with programs coded =
           record {
-            serves = λ f values below stack count rest onward callers world host K there next.
-                subst (λ o. Leads does library codes answers (instructed does library codes answers
-                (call_wanted o (conf file running rest stack onward callers world)) (instr.Call count)
-                (conf file running rest stack onward callers world) host)
-                (finish (call_value does answers library programs run running f values world host) K))
-                (sym there)
-                (callee_leads programs coded (callee_of world.heap f) count f values below stack rest
-                onward callers world host K there refl next);
+            serves = λ f args gathered i below stack rest onward callers world host K is next.
+                callee_leads programs coded (callee_of world.heap f) f args gathered i below stack rest
+                onward callers world host K is next;
           }
 
   not_below : (count : ℕ) → count + 0 ≡ MOST_CALLS → nat_lt count MOST_CALLS ≡ false
@@ -341,17 +469,11 @@ module _ {H : Type 0} (does : Meaning H HostCall) (library : Rows) (codes : List
   -- bodies of which it is known what their calls do
   bodies_serve : (file : ℕ) (running : List Running) (depth : ℕ)
       → length running + suc depth ≡ MOST_CALLS
-      → (call : Running → Val → List Val → M H Val)
+      → (call : Running → Val → Args → M H Val)
       → ((callee : ℕ) (f : Running)
       → CallServes does library codes answers callee (f ∷ running) (call f))
-      → RunServes file running (λ f around program code values. run_body (record {
-        does = does;
-        answers = answers;
-        library = library;
-        file = f.file;
-        program = program;
-        call = call f;
-      }) around code values)
+      → RunServes file running (λ f around program code values. run_body
+      (setting_with does answers library f.file program (call f)) around code values)
   bodies_serve file running depth fit call serve =
       record {
         serves = λ f program this here coded tree entry on_entry values stack below rest onward callers
@@ -360,14 +482,9 @@ module _ {H : Type 0} (does : Meaning H HostCall) (library : Rows) (codes : List
               below_most (length running) depth fit,
               there_of f.file this here entry.block on_entry.block on_entry.there,
             )
-            (back_runs world (body_value tree.body (record {
-              does = does;
-              answers = answers;
-              library = library;
-              file = f.file;
-              program = program;
-              call = call (running_of f);
-            }) (opened f.around values world) host) K _ host
+            (back_runs world (body_value tree.body
+            (setting_with does answers library f.file program (call (running_of f)))
+            (opened f.around values world) host) K _ host
             (body_runs f.file (running_of f ∷ running) program this here coded (call (running_of f))
             (serve f.file (running_of f)) tree.body on_entry.block on_entry.body
             (waiting (conf file running rest stack onward callers world) below ∷ callers)
@@ -414,9 +531,15 @@ module _ {H : Type 0} (does : Meaning H HostCall) (library : Rows) (codes : List
       (setting does answers library programs number program MOST_CALLS []) world host)) _ host
       (flow_runs (body_meaning program.tree.body
       (setting does answers library programs number program MOST_CALLS []) world host) Done _ host
-      ((stmts_serve does library codes answers number [] program this here on_file
+      ((stmts_serve does library codes answers number [] program this here
       (calls does answers library programs MOST_CALLS [])
-      (calls_serve programs coded MOST_CALLS number [] refl) on_file.body).runs [] [] [] world host
+      (calls_serve programs coded MOST_CALLS number [] refl) 0
+      (functions_made (length program.tree.functions) 0
+      (bare_setting does answers library number program
+      (calls does answers library programs MOST_CALLS [])))
+      (file_makes number [] program this here on_file
+      (calls does answers library programs MOST_CALLS [])
+      (calls_serve programs coded MOST_CALLS number [] refl)) on_file.body).runs [] [] [] world host
       (λ flow w h. Done (value_of flow) w h) (record {
         next = λ w h. step does library codes answers _ h _
             (step does library codes answers _ h _ refl);
@@ -430,11 +553,21 @@ module _ {H : Type 0} (does : Meaning H HostCall) (library : Rows) (codes : List
       → RunTo (call_begun number f values world) host
       (call_meaning does answers library programs f values world host)
   call_runs programs coded number f values world host =
-      ended_runs (calls does answers library programs MOST_CALLS [] f values world host) _ host
+      ended_runs (calls does answers library programs MOST_CALLS [] f (by_position values) world host) _
+      host
       (call_step does library codes answers number [] (instr.Return ∷ [])
       (reverse values ++ (f ∷ [])) [] [] world host _ (length values)
-      ((calls_serve programs coded MOST_CALLS number [] refl).serves f values []
-      (reverse values ++ (f ∷ [])) (length values) (instr.Return ∷ []) [] [] world host Done
-      (taken_top (length values) values (f ∷ []) refl)
+      (subst (λ o. Leads does library codes answers (instructed does library codes answers
+      (call_wanted o (conf number [] (instr.Return ∷ []) (reverse values ++ (f ∷ [])) [] [] world))
+      (instr.Call (length values))
+      (conf number [] (instr.Return ∷ []) (reverse values ++ (f ∷ [])) [] [] world) host)
+      (finish (calls does answers library programs MOST_CALLS [] f (by_position values) world host)
+      Done)) (sym (taken_top (length values) values (f ∷ []) refl))
+      ((calls_serve programs coded MOST_CALLS number [] refl).serves f (by_position values) no_args
+      (instr.Call (length values)) [] (reverse values ++ (f ∷ [])) (instr.Return ∷ []) [] [] world host
+      Done
+      (called_performed does library codes answers number [] (length values) values []
+      (reverse values ++ (f ∷ [])) f (instr.Return ∷ []) [] [] world
+      (taken_top (length values) values (f ∷ []) refl))
       (λ v w h. return_step does library codes answers number [] [] (v ∷ []) [] [] w h _
-      (step does library codes answers _ h _ refl))))
+      (step does library codes answers _ h _ refl)))))

@@ -1,13 +1,14 @@
 -- How runs of code are put together.
-use Rattle.std.proofs.Common.{◌≡◌, ◌∙◌, ap, refl, ℕ, List, Option}
+use Rattle.std.proofs.Common.{◌≡◌, ◌∙◌, ap, refl, ℕ, List}
 use Rattle.star_code.specs.declared.code.Code.{Code}
 use Rattle.star_code.specs.declared.code.Instr.{Instr}
 use Rattle.star_core.specs.Hosts.{HostCall, Meaning}
 use Rattle.star_core.specs.Tables.{Table}
 use Rattle.star_core.specs.declared.values.Val.{Val}
-use Rattle.star_machine.specs.Configs.{Caller, Config, Doing, Leaves, Onward, Runs}
-use Rattle.star_machine.specs.Outcomes.{Breaks, Ends, Goes, Step}
+use Rattle.star_machine.specs.Configs.{Caller, Config, Leaves, Onward, Runs}
+use Rattle.star_machine.specs.Outcomes.{Step}
 use Rattle.star_machine.specs.Steps.{after}
+use Rattle.star_meaning.specs.Arguments.{no_args}
 use Rattle.star_meaning.specs.Libraries.{Rows}
 use Rattle.star_meaning.specs.Results.{Gives, M, Outcome, Res, Stops, then_with, worked}
 use Rattle.star_meaning.specs.Worlds.{Fails, Work, Works, World}
@@ -29,6 +30,7 @@ conf file running rest stack onward callers world =
       file = file;
       doing = Runs rest;
       stack = stack;
+      gathered = no_args;
       onward = onward;
       callers = callers;
       running = running;
@@ -49,6 +51,7 @@ leaves file running exit stack onward callers world =
       file = file;
       doing = Leaves exit;
       stack = stack;
+      gathered = no_args;
       onward = onward;
       callers = callers;
       running = running;

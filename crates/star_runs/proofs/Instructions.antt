@@ -1,17 +1,20 @@
 -- One step for each instruction: where the instruction leads, a run comes to that.
-use Rattle.std.proofs.Common.{◌≡◌, ◌∙◌, ap, refl, sym, subst, ℕ, Bool, List, [], ◌∷◌, Option, Some, None}
+use Rattle.std.proofs.Common.{ℕ, Bool, List, [], ◌∷◌}
 use Rattle.star_code.specs.declared.code.Code.{Code}
 use Rattle.star_code.specs.declared.code.Instr.{Instr}
 use Rattle.star_code.specs.declared.code.Instr.TheVariants as instr
 use Rattle.star_core.specs.Hosts.{HostCall, Meaning}
 use Rattle.star_core.specs.Stacks.{taken}
 use Rattle.star_core.specs.Tables.{Table}
+use Rattle.star_core.specs.declared.values.Args.{Args}
 use Rattle.star_core.specs.declared.values.Val.{Val}
 use Rattle.star_machine.specs.Configs.{Caller, Config, Onward}
 use Rattle.star_machine.specs.Outcomes.{Step}
-use Rattle.star_machine.specs.Steps.{attribute_named, begun, binary_done, branched, breaks, called_below}
-use Rattle.star_machine.specs.Steps.{constant, defined, dict_made, entry_put, faults, fetched}
-use Rattle.star_machine.specs.Steps.{forgotten, given_back, index_augmented, index_put, indexed}
+use Rattle.star_machine.specs.Steps.{begun, binary_done, branched}
+use Rattle.star_machine.specs.Steps.{collected, constant, defaulted, defined, dict_made}
+use Rattle.star_machine.specs.Steps.{entry_collected, entry_put, faults, fetched, forgotten}
+use Rattle.star_machine.specs.Steps.{gathered_step, given_back, index_augmented, index_put, indexed}
+use Rattle.star_machine.specs.Steps.{inwards, items_tested, keywords_tested}
 use Rattle.star_machine.specs.Steps.{leaving, listed, looped, name_augmented, name_of, named, perform}
 use Rattle.star_machine.specs.Steps.{plain_pushed, set, short, sliced, ticked, tupled, unary_done}
 use Rattle.star_machine.specs.Steps.{unpacked_on}
@@ -19,11 +22,11 @@ use Rattle.star_meaning.specs.Libraries.{Rows}
 use Rattle.star_meaning.specs.Results.{Outcome}
 use Rattle.star_meaning.specs.Worlds.{World}
 use Rattle.star_meaning.specs.declared.reasons.Exit.TheVariants as exit
-use Rattle.star_meaning.specs.declared.reasons.Reason.TheVariants as reason
 use Rattle.star_meaning.specs.declared.reasons.Running.{Running}
 use Rattle.star_core.specs.declared.faults.Fault.TheVariants as fault
 use Rattle.star_runs.proofs.Combine.{Leads, Run, conf, step}
-use Rattle.star_runs.specs.Runs.{attribute_wanted, call_wanted, instructed, wanted, went}
+use Rattle.star_runs.specs.Runs.{attribute_wanted, call_wanted, callee_wanted, instructed, wanted}
+use Rattle.star_runs.specs.Runs.{went}
 use Rattle.star_trees.specs.declared.trees.BinOp.{BinOp}
 use Rattle.star_trees.specs.declared.trees.UnOp.{UnOp}
 
@@ -132,6 +135,67 @@ module _ {H : Type 0} (does : Meaning H HostCall) (library : Rows) (codes : List
         step does library codes answers
         (conf file running (instr.If chosen other ∷ rest) stack onward callers world) host outcome leads
 
+    pub defaults_step : (function : ℕ)
+        → Led (defaulted codes function here)
+        → From (instr.Defaults function)
+    unfolding perform wanted
+    defaults_step function leads =
+        step does library codes answers
+        (conf file running (instr.Defaults function ∷ rest) stack onward callers world) host outcome
+        leads
+
+    pub check_items_step : Led (items_tested here) → From instr.CheckItems
+    unfolding perform wanted
+    check_items_step leads =
+        step does library codes answers
+        (conf file running (instr.CheckItems ∷ rest) stack onward callers world) host outcome leads
+
+    pub check_keywords_step : Led (keywords_tested here) → From instr.CheckKeywords
+    unfolding perform wanted
+    check_keywords_step leads =
+        step does library codes answers
+        (conf file running (instr.CheckKeywords ∷ rest) stack onward callers world) host outcome leads
+
+    pub gather_step : (shape : ℕ) → Led (gathered_step codes shape here) → From (instr.Gather shape)
+    unfolding perform wanted
+    gather_step shape leads =
+        step does library codes answers
+        (conf file running (instr.Gather shape ∷ rest) stack onward callers world) host outcome leads
+
+    pub within_step : (block : ℕ) → Led (inwards codes block here) → From (instr.Within block)
+    unfolding perform wanted
+    within_step block leads =
+        step does library codes answers
+        (conf file running (instr.Within block ∷ rest) stack onward callers world) host outcome leads
+
+    pub collect_step : Led (collected here) → From instr.Collect
+    unfolding perform wanted
+    collect_step leads =
+        step does library codes answers
+        (conf file running (instr.Collect ∷ rest) stack onward callers world) host outcome leads
+
+    pub collect_entry_step : Led (entry_collected library here) → From instr.CollectEntry
+    unfolding perform wanted
+    collect_entry_step leads =
+        step does library codes answers
+        (conf file running (instr.CollectEntry ∷ rest) stack onward callers world) host outcome leads
+
+    -- a call with the arguments that were gathered
+    pub call_gathered_step : (args : Args)
+        → Leads does library codes answers (instructed does library codes answers
+        (callee_wanted args stack (record here { gathered = args })) instr.CallGathered
+        (record here { gathered = args }) host) outcome
+        → Run does library codes answers
+        (record (conf file running (instr.CallGathered ∷ rest) stack onward callers world) {
+          gathered = args;
+        }) host outcome
+    unfolding wanted
+    call_gathered_step args leads =
+        step does library codes answers
+        (record (conf file running (instr.CallGathered ∷ rest) stack onward callers world) {
+          gathered = args;
+        }) host outcome leads
+
     pub def_step : (function : ℕ) → Led (defined codes function here) → From (instr.Def function)
     unfolding perform wanted
     def_step function leads =
@@ -203,12 +267,6 @@ module _ {H : Type 0} (does : Meaning H HostCall) (library : Rows) (codes : List
     augment_index_step op leads =
         step does library codes answers
         (conf file running (instr.AugmentIndex op ∷ rest) stack onward callers world) host outcome leads
-
-    pub unbuilt_step : Led (breaks reason.Unbuilt here) → From instr.Unbuilt
-    unfolding perform wanted
-    unbuilt_step leads =
-        step does library codes answers
-        (conf file running (instr.Unbuilt ∷ rest) stack onward callers world) host outcome leads
 
     pub not_assignable_step : Led (faults fault.Kind here) → From instr.NotAssignable
     unfolding perform wanted

@@ -1,5 +1,5 @@
 -- Nothing may be assigned to an expression that is neither a name nor an index.
-use Rattle.std.proofs.Common.{rules, ◌≡◌, ap, sym, subst, false, Option}
+use Rattle.std.proofs.Common.{rules, ◌≡◌, ap, subst, false, Option}
 use Rattle.star_core.specs.declared.faults.Fault.TheVariants as fault
 use Rattle.star_core.specs.declared.values.Val.{Val}
 use Rattle.star_meaning.specs.Expressions.{Setting, meaning, meanings}

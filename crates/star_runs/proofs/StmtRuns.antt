@@ -1,63 +1,60 @@
 -- The code of a statement does what the statement means, whatever comes behind it.
-use Rattle.std.proofs.Common.{rules, ◌≡◌, ◌∙◌, ap, refl, sym, subst, ℕ, suc, ◌==◌, Bool, true, false}
-use Rattle.std.proofs.Common.{cond, if◌then◌else◌, List, [], ◌∷◌, ◌++◌, length, map, Option, Some, None}
+use Rattle.std.proofs.Common.{◌≡◌, refl, sym, subst, ℕ, Bool, true, false}
+use Rattle.std.proofs.Common.{cond, List, [], ◌∷◌, map, Option, Some, None}
 use Rattle.std.proofs.Common.{slice_get, option_map, Result, Ok, Err}
-use Rattle.std.proofs.lemmas.Bool.{eqb-true}
-use Rattle.std.proofs.lemmas.List.{length-map}
-use Rattle.star_code.specs.Codes.{AugmentCode, BoundCode, ExprCode, FileCoded, KindCode, StmtCode}
-use Rattle.star_code.specs.Codes.{StmtsCode, Tables, TargetCode, TargetsCode, tables_of}
+use Rattle.star_code.specs.Codes.{AugmentCode, ExprCode, KindCode, StmtCode, StmtsCode}
+use Rattle.star_code.specs.Codes.{Tables, TargetCode, from_function, tables_of}
 use Rattle.star_code.specs.declared.code.Code.{Code}
 use Rattle.star_code.specs.declared.code.Instr.{Instr}
 use Rattle.star_code.specs.declared.code.Instr.TheVariants as instr
-use Rattle.star_core.specs.Heaps.{cell_at, unwalked, walked}
+use Rattle.star_core.specs.Heaps.{unwalked, walked}
 use Rattle.star_core.specs.Hosts.{HostCall, Meaning}
 use Rattle.star_core.specs.Tables.{Table}
 use Rattle.star_core.specs.declared.faults.Fault.{Fault}
 use Rattle.star_core.specs.declared.faults.Fault.TheVariants as fault
+use Rattle.star_core.specs.declared.values.Args.{Args}
 use Rattle.star_core.specs.declared.values.Val.{Val}
-use Rattle.star_core.specs.declared.values.Val.TheVariants as val
 use Rattle.star_library.specs.Kinds.{items_of}
-use Rattle.star_machine.specs.Configs.{Behind, Caller, Config, Doing, Leaves, Onward, Runs, Turns}
+use Rattle.star_machine.specs.Configs.{Behind, Caller, Doing, Leaves, Onward, Runs, Turns}
 use Rattle.star_machine.specs.Configs.{block_of}
-use Rattle.star_machine.specs.Outcomes.{Step}
 use Rattle.star_machine.specs.Steps.{after, on_with, out_of_loop, put_some, turned}
-use Rattle.star_meaning.specs.Expressions.{ExprMeaning, Program, Setting, assign_each, assign_some}
-use Rattle.star_meaning.specs.Expressions.{bound_meaning, function_made, in_setting, meaning, meanings}
+use Rattle.star_meaning.specs.Expressions.{Program, Setting, assign_some}
+use Rattle.star_meaning.specs.Expressions.{bound_meaning, in_setting, meaning, meanings}
 use Rattle.star_meaning.specs.Expressions.{node, target_meaning}
+use Rattle.star_meaning.specs.Arguments.{no_args}
 use Rattle.star_meaning.specs.Libraries.{Rows}
-use Rattle.star_meaning.specs.Results.{Gives, M, Outcome, Res, Stops, ◌>>=◌, change_to, fail, lift, pure}
-use Rattle.star_meaning.specs.Results.{then_with}
-use Rattle.star_meaning.specs.Statements.{Flow, Left, Next, StmtMeaning, augmented, go_on, in_turn}
-use Rattle.star_meaning.specs.Statements.{kind_step, loop, stmt_meaning, stmt_meanings, stmt_step}
-use Rattle.star_meaning.specs.Statements.{then_next, turn_on, turns, unwalk, walk}
-use Rattle.star_meaning.specs.Worlds.{Fails, Work, Works, World, assigned, begin_at, items_in, of_result}
-use Rattle.star_meaning.specs.Worlds.{on_heap, so_many, tick, truth, unpacked, unpacked_in, variable}
+use Rattle.star_meaning.specs.Results.{M, Outcome, ◌>>=◌, change_to, fail, lift, pure}
+use Rattle.star_meaning.specs.Loops.{Flow, Left, Next, go_on, loop, then_next, turn_on, turns, unwalk}
+use Rattle.star_meaning.specs.Loops.{walk}
+use Rattle.star_meaning.specs.Statements.{StmtMeaning, augmented, in_turn, stmt_meaning}
+use Rattle.star_meaning.specs.Statements.{stmt_meanings}
+use Rattle.star_meaning.specs.Worlds.{Works, World, assigned, begin_at, of_result}
+use Rattle.star_meaning.specs.Worlds.{on_heap, tick, truth, variable}
 use Rattle.star_meaning.specs.declared.reasons.Exit.{Exit}
 use Rattle.star_meaning.specs.declared.reasons.Exit.TheVariants as exit
 use Rattle.star_meaning.specs.declared.reasons.Place.{Place}
 use Rattle.star_meaning.specs.declared.reasons.Running.{Running}
 use Rattle.star_runs.proofs.Combine.{Leads, Run, after_leads, bind_leads, bind_runs, conf, finish}
 use Rattle.star_runs.proofs.Combine.{last_leads, leaves, step}
-use Rattle.star_runs.proofs.ExprRuns.{CallServes, ExprServes, RunAt, block_here, bound_serves}
-use Rattle.star_runs.proofs.ExprRuns.{expr_serves, function_serves, name_serves}
+use Rattle.star_runs.proofs.ExprRuns.{CallServes, ExprServes, MakesServe, TargetServes}
+use Rattle.star_runs.proofs.ExprRuns.{block_here, bound_serves, expr_serves, name_serves, name_target}
+use Rattle.star_runs.proofs.ExprRuns.{target_serves}
 use Rattle.star_runs.proofs.Instructions.{augment_index_step, augment_name_step, begin_step}
 use Rattle.star_runs.proofs.Instructions.{break_step, continue_step, fetch_step, for_step, forget_step}
-use Rattle.star_runs.proofs.Instructions.{if_step, name_step, not_assignable_step, return_step}
-use Rattle.star_runs.proofs.Instructions.{set_index_step, set_step, tick_step, unpack_step}
+use Rattle.star_runs.proofs.Instructions.{if_step, not_assignable_step, return_step}
+use Rattle.star_runs.proofs.Instructions.{tick_step}
 use Rattle.star_runs.proofs.Places.{other_augment}
-use Rattle.star_runs.specs.Runs.{Went, went}
+use Rattle.star_runs.specs.Runs.{went}
 use Rattle.star_trees.proofs.Folds.{fold_expr-Index, fold_expr-Name, fold_kind-Assign}
 use Rattle.star_trees.proofs.Folds.{fold_kind-Augment, fold_kind-Break, fold_kind-Continue}
 use Rattle.star_trees.proofs.Folds.{fold_kind-Def, fold_kind-For, fold_kind-If, fold_kind-Load}
 use Rattle.star_trees.proofs.Folds.{fold_kind-Pass, fold_kind-Return, fold_kind-Value, fold_stmt-roll}
-use Rattle.star_trees.proofs.Folds.{fold_target-Index, fold_target-Many, fold_target-Name}
 use Rattle.star_trees.specs.Folds.{fold_kind}
 use Rattle.star_trees.specs.declared.trees.BinOp.{BinOp}
 use Rattle.star_trees.specs.declared.trees.Expr.{Expr}
 use Rattle.star_trees.specs.declared.trees.Stmt.{Stmt}
 use Rattle.star_trees.specs.declared.trees.StmtKind.{StmtKind}
 use Rattle.star_trees.specs.declared.trees.Target.{Target}
-use Rattle.star_trees.specs.declared.trees.Var.{Var}
 
 module _ {H : Type 0} (does : Meaning H HostCall) (library : Rows) (codes : List Code)
     (answers : Table) (file : ℕ) (running : List Running) where
@@ -81,128 +78,6 @@ module _ {H : Type 0} (does : Meaning H HostCall) (library : Rows) (codes : List
         (host : H) (K : Flow → World → H → Outcome H)
         → GoesOn rest stack onward callers K
         → At is stack onward callers world host (finish (m world host) K)
-
-  -- code to which the top is assigned
-  pub record TargetServes (is rest : List Instr) (m : Val → M H (Unit {0})) : Type 0 where
-    pub runs : (v : Val) (stack : List Val) (onward : List Onward) (callers : List Caller)
-        (world : World) (host : H) (K : Unit {0} → World → H → Outcome H)
-        → ((w : World) (h : H) → At rest stack onward callers w h (K tt w h))
-        → At is (v ∷ stack) onward callers world host (finish (m v world host) K)
-
-  pub record TargetsServe (is rest : List Instr) (count : ℕ) (ms : List (Val → M H (Unit {0})))
-      : Type 0 where
-    pub runs : (vs stack : List Val) (onward : List Onward) (callers : List Caller) (world : World)
-        (host : H) (K : Unit {0} → World → H → Outcome H)
-        → length vs ≡ count
-        → ((w : World) (h : H) → At rest stack onward callers w h (K tt w h))
-        → At is (vs ++ stack) onward callers world host (finish (assign_each ms vs world host) K)
-
-  name_target : (hops slot : ℕ) (rest : List Instr)
-      → TargetServes (instr.Set hops slot ∷ rest) rest
-      (λ value. change_to (assigned hops slot value))
-  name_target hops slot rest =
-      record {
-        runs = λ v stack onward callers world host K next.
-            set_step does library codes answers file running rest (v ∷ stack) onward callers world host _
-            hops slot (next (assigned hops slot v world) host);
-      }
-
-  index_target : (is mid rest : List Instr) (of at : M H Val)
-      → Serves mid (instr.SetIndex ∷ rest) at
-      → Serves is mid of
-      → TargetServes is rest (λ value. of >>= (λ container. at >>= (λ place.
-      lift (on_heap (library.set_index container place value)))))
-  index_target is mid rest of at on_at on_of =
-      record {
-        runs = λ v stack onward callers world host K next.
-            bind_runs does library codes answers (of world host) (λ container. at >>= (λ place.
-            lift (on_heap (library.set_index container place v)))) K _ host
-            (on_of.runs (v ∷ stack) onward callers world host _ (λ container w h.
-            bind_runs does library codes answers (at w h) (λ place.
-            lift (on_heap (library.set_index container place v))) K _ h
-            (on_at.runs (container ∷ v ∷ stack) onward callers w h _ (λ place w2 h2.
-            set_index_step does library codes answers file running rest
-            (place ∷ container ∷ v ∷ stack) onward callers w2 h2 _
-            (last_leads does library codes answers
-            (on_heap (library.set_index container place v) w2) _ h2 K
-            (λ _ w3. next w3 h2))))));
-      }
-
-  no_targets : (rest : List Instr) → TargetsServe rest rest 0 []
-  no_targets rest =
-      record {
-        runs = λ vs stack onward callers world host K long next.
-            by vs stack onward callers world host K long next;
-      }
-    where
-      by : (vs stack : List Val) (onward : List Onward) (callers : List Caller) (world : World) (host : H)
-          (K : Unit {0} → World → H → Outcome H)
-          → length vs ≡ 0
-          → ((w : World) (h : H) → At rest stack onward callers w h (K tt w h))
-          → At rest (vs ++ stack) onward callers world host (finish (assign_each [] vs world host) K)
-      by [] stack onward callers world host K long next = next world host
-      by (v ∷ vs) stack onward callers world host K long next = absurd (cc)
-
-  more_targets : (is mid rest : List Instr) (count : ℕ) (first : Val → M H (Unit {0}))
-      (more : List (Val → M H (Unit {0})))
-      → TargetsServe mid rest count more
-      → TargetServes is mid first
-      → TargetsServe is rest (suc count) (first ∷ more)
-  more_targets is mid rest count first more on_more on_first =
-      record {
-        runs = λ vs stack onward callers world host K long next.
-            by vs stack onward callers world host K long next;
-      }
-    where
-      by : (vs stack : List Val) (onward : List Onward) (callers : List Caller) (world : World) (host : H)
-          (K : Unit {0} → World → H → Outcome H)
-          → length vs ≡ suc count
-          → ((w : World) (h : H) → At rest stack onward callers w h (K tt w h))
-          → At is (vs ++ stack) onward callers world host
-          (finish (assign_each (first ∷ more) vs world host) K)
-      by [] stack onward callers world host K long next = absurd (cc)
-      by (v ∷ vs) stack onward callers world host K long next =
-          bind_runs does library codes answers (first v world host) (λ _. assign_each more vs) K _ host
-          (on_first.runs v (vs ++ stack) onward callers world host _ (λ w h.
-          on_more.runs vs stack onward callers w h K (cc) next))
-
-  unpack_leads : (items : Result (List Val) Fault) (is rest : List Instr) (count : ℕ)
-      (ms : List (Val → M H (Unit {0})))
-      → TargetsServe is rest count ms
-      → (stack top : List Val) (onward : List Onward) (callers : List Caller) (world : World) (host : H)
-      (K : Unit {0} → World → H → Outcome H)
-      → ((w : World) (h : H) → At rest stack onward callers w h (K tt w h))
-      → Leads does library codes answers (went (after (of_result (unpacked_in count items) world)
-      (λ values w. on_with (conf file running is top onward callers world) (values ++ stack) w)) host)
-      (finish ((lift (λ w. of_result (unpacked_in count items) w) >>= (λ values. assign_each ms values))
-      world host) K)
-  unpack_leads (Err why) is rest count ms serves stack top onward callers world host K next = refl
-  unpack_leads (Ok vs) is rest count ms serves stack top onward callers world host K next =
-      by (length vs == count) refl
-    where
-      by : (same : Bool)
-          → (length vs == count) ≡ same
-          → Leads does library codes answers (went (after
-          (of_result (if same then Ok vs else Err fault.Value) world)
-          (λ values w. on_with (conf file running is top onward callers world) (values ++ stack) w))
-          host)
-          (finish ((lift (λ w. of_result (if same then Ok vs else Err fault.Value) w)
-          >>= (λ values. assign_each ms values)) world host) K)
-      by true long = serves.runs vs stack onward callers world host K (eqb-true (length vs) count long) next
-      by false long = refl
-
-  many_target : (is rest : List Instr) (count : ℕ) (ms : List (Val → M H (Unit {0})))
-      → TargetsServe is rest count ms
-      → TargetServes (instr.Unpack count ∷ is) rest
-      (λ value. lift (unpacked value count) >>= (λ values. assign_each ms values))
-  unfolding unpacked
-  many_target is rest count ms serves =
-      record {
-        runs = λ v stack onward callers world host K next.
-            unpack_step does library codes answers file running is (v ∷ stack) onward callers world host _
-            count (unpack_leads (items_of world.heap v) is rest count ms serves stack (v ∷ stack) onward
-            callers world host K next);
-      }
 
   -- statements
   no_stmts : (rest : List Instr) → StmtServes rest rest (in_turn [])
@@ -290,7 +165,7 @@ module _ {H : Type 0} (does : Meaning H HostCall) (library : Rows) (codes : List
 
   turns_lead : (body mid : List Instr) (m : M H Flow) (assign : Val → M H (Unit {0}))
       → StmtServes mid [] m
-      → TargetServes body mid assign
+      → TargetServes does library codes answers file running body mid assign
       → (items : List Val) (over : Val) (place : Option Place) (doing : Doing) (rest : List Instr)
       (stack : List Val) (onward before : List Onward) (callers : List Caller) (world : World) (host : H)
       (K : Flow → World → H → Outcome H)
@@ -299,6 +174,7 @@ module _ {H : Type 0} (does : Meaning H HostCall) (library : Rows) (codes : List
         file = file;
         doing = doing;
         stack = stack;
+        gathered = no_args;
         onward = before;
         callers = callers;
         running = running;
@@ -337,7 +213,7 @@ module _ {H : Type 0} (does : Meaning H HostCall) (library : Rows) (codes : List
       → block_of codes file block ≡ body
       → (m : M H Flow) (assign : Val → M H (Unit {0}))
       → StmtServes mid [] m
-      → TargetServes body mid assign
+      → TargetServes does library codes answers file running body mid assign
       → (over : Val) (stack before : List Val) (onward : List Onward) (callers : List Caller)
       (world : World) (host : H) (K : Flow → World → H → Outcome H)
       → GoesOn rest stack onward callers K
@@ -374,7 +250,7 @@ module _ {H : Type 0} (does : Meaning H HostCall) (library : Rows) (codes : List
       (assign : Val → M H (Unit {0})) (m : M H Flow)
       → block_of codes file block ≡ body
       → StmtServes mid [] m
-      → TargetServes body mid assign
+      → TargetServes does library codes answers file running body mid assign
       → Serves is (instr.For block ∷ rest) over
       → StmtServes is rest (over >>= (λ value. loop value assign m))
   loop_serves block body mid is rest over assign m there serves on_assign on_over =
@@ -404,7 +280,7 @@ module _ {H : Type 0} (does : Meaning H HostCall) (library : Rows) (codes : List
       }
 
   target_stmt : (is mid rest : List Instr) (value : M H Val) (assign : Val → M H (Unit {0}))
-      → TargetServes mid rest assign
+      → TargetServes does library codes answers file running mid rest assign
       → Serves is mid value
       → StmtServes is rest (value >>= (λ v. then_next (assign v)))
   target_stmt is mid rest value assign on_assign on_value =
@@ -543,8 +419,11 @@ module _ {H : Type 0} (does : Meaning H HostCall) (library : Rows) (codes : List
       }
 
   module _ (program : Program) (this : Code) (here : slice_get codes file ≡ Some this)
-      (coded : FileCoded program this) (call : Val → List Val → M H Val)
-      (calls_serve : CallServes does library codes answers file running call) where
+      (call : Val → Args → M H Val)
+      (calls_serve : CallServes does library codes answers file running call) (least : ℕ)
+      (make : ℕ → M H Val)
+      (makes_serve : MakesServe does library codes answers file running
+      (from_function least (tables_of this program.literals)) make) where
     abbrev s : Setting H
     s =
         record {
@@ -554,53 +433,32 @@ module _ {H : Type 0} (does : Meaning H HostCall) (library : Rows) (codes : List
           file = file;
           program = program;
           call = call;
+          make = make;
         }
 
     abbrev t : Tables
-    t = tables_of this program.literals
+    t = from_function least (tables_of this program.literals)
 
     abbrev value_serves : {e : Expr} {rest is : List Instr}
         → ExprCode t e rest is
         → Serves is rest ((meaning e).value s)
     value_serves on_value =
-        expr_serves does library codes answers file running program this here coded call calls_serve
-        on_value
+        expr_serves does library codes answers file running program this here call calls_serve least
+        make makes_serve on_value
+
+    abbrev assigned_serves : {to : Target} {rest is : List Instr}
+        → TargetCode t to rest is
+        → TargetServes does library codes answers file running is rest (target_meaning to s)
+    assigned_serves on_to =
+        target_serves does library codes answers file running program this here call calls_serve least
+        make makes_serve on_to
 
     abbrev block_at : (block : ℕ) (code : List Instr)
         → slice_get this.blocks block ≡ Some code
         → block_of codes file block ≡ code
     block_at block code there =
-        block_here does library codes answers file running program this here coded call calls_serve
-        block code there
-
-    mutual
-      target_serves : {to : Target} {rest is : List Instr}
-          → TargetCode t to rest is
-          → TargetServes is rest (target_meaning to s)
-      target_serves (TargetCode.name {var} {rest}) =
-          subst (λ m. TargetServes (instr.Set var.scope var.slot ∷ rest) rest (m s))
-          (sym (fold_target-Name (meanings {H = H}) var)) (name_target var.scope var.slot rest)
-      target_serves (TargetCode.index {of} {at} {rest} {mid} {is} on_at on_of) =
-          subst (λ m. TargetServes is rest (m s)) (sym (fold_target-Index (meanings {H = H}) of at))
-          (index_target is mid rest _ _ (value_serves on_at) (value_serves on_of))
-      target_serves (TargetCode.many {targets} {rest} {is} on_targets) =
-          subst (λ m. TargetServes (instr.Unpack (length targets) ∷ is) rest (m s))
-          (sym (fold_target-Many (meanings {H = H}) targets))
-          (subst (λ n. TargetServes (instr.Unpack (length targets) ∷ is) rest
-          (λ value. lift (unpacked value n) >>= (λ values. assign_each
-          (map (λ target. target s) (map target_meaning targets)) values)))
-          (sym (length-map targets target_meaning))
-          (many_target is rest (length targets) _ (targets_serve on_targets)))
-
-      targets_serve : {targets : List Target} {rest is : List Instr}
-          → TargetsCode t targets rest is
-          → TargetsServe is rest (length targets)
-          (map (λ target. target s) (map target_meaning targets))
-      targets_serve (TargetsCode.none {rest}) = no_targets rest
-      targets_serve (TargetsCode.some {first} {more} {rest} {mid} {is} on_more on_first) =
-          more_targets is mid rest (length more) (target_meaning first s)
-          (map (λ target. target s) (map target_meaning more)) (targets_serve on_more)
-          (target_serves on_first)
+        block_here does library codes answers file running program this here call calls_serve least make
+        makes_serve block code there
 
     not_assignable_serves : (rest : List Instr) (m : M H (Unit {0}))
         → m ≡ fail fault.Kind
@@ -645,14 +503,12 @@ module _ {H : Type 0} (does : Meaning H HostCall) (library : Rows) (codes : List
       kind_serves : {kind : StmtKind} {rest is : List Instr}
           → KindCode t kind rest is
           → StmtServes is rest (fold_kind (stmt_meanings {H = H}) kind s)
-      kind_serves (KindCode.define {function} {to} {rest}) =
+      kind_serves (KindCode.define {function} {to} {rest} {is} on_make) =
           as_kind (fold_kind-Def (stmt_meanings {H = H}) function to)
-          (target_stmt (instr.Def function ∷ instr.Set to.scope to.slot ∷ rest)
-          (instr.Set to.scope to.slot ∷ rest) rest (function_made function s)
+          (target_stmt is (instr.Set to.scope to.slot ∷ rest) rest (make function)
           (λ value. change_to (assigned to.scope to.slot value))
-          (name_target to.scope to.slot rest)
-          (function_serves does library codes answers file running program this here coded call
-          calls_serve function (instr.Set to.scope to.slot ∷ rest)))
+          (name_target does library codes answers file running to.scope to.slot rest)
+          (makes_serve.serves on_make))
       kind_serves (KindCode.branch {test} {chosen} {other} {chosen_at} {other_at} {chosen_code}
           {other_code} {rest} {is} there on_chosen other_there on_other on_test) =
           as_kind (fold_kind-If (stmt_meanings {H = H}) test chosen other)
@@ -671,13 +527,13 @@ module _ {H : Type 0} (does : Meaning H HostCall) (library : Rows) (codes : List
           as_kind (fold_kind-For (stmt_meanings {H = H}) to over body)
           (loop_serves block code mid is rest ((meaning over).value s) (target_meaning to s)
           (in_turn (map (in_setting s) (map stmt_meaning body))) (block_at block code there)
-          (stmts_serve on_body) (target_serves on_to) (value_serves on_over))
+          (stmts_serve on_body) (assigned_serves on_to) (value_serves on_over))
       kind_serves (KindCode.give {value} {rest} {is} on_value) =
           as_kind (fold_kind-Return (stmt_meanings {H = H}) value)
           (one_serves is rest instr.Return (bound_meaning (option_map meaning value) s)
           (λ v. pure (Left (exit.Return v)))
-          (bound_serves does library codes answers file running program this here coded call
-          calls_serve on_value) (λ v stack onward callers w h K on.
+          (bound_serves does library codes answers file running program this here call calls_serve
+          least make makes_serve on_value) (λ v stack onward callers w h K on.
           return_step does library codes answers file running rest (v ∷ stack) onward callers w h _
           (on.left (exit.Return v) w h)))
       kind_serves (KindCode.break {rest}) =
@@ -699,7 +555,7 @@ module _ {H : Type 0} (does : Meaning H HostCall) (library : Rows) (codes : List
       kind_serves (KindCode.assign {to} {value} {rest} {mid} {is} on_to on_value) =
           as_kind (fold_kind-Assign (stmt_meanings {H = H}) to value)
           (target_stmt is mid rest ((meaning value).value s) (target_meaning to s)
-          (target_serves on_to) (value_serves on_value))
+          (assigned_serves on_to) (value_serves on_value))
       kind_serves (KindCode.augment {to} {op} {value} {rest} {is} on_augment) =
           as_kind (fold_kind-Augment (stmt_meanings {H = H}) to op value) (augment_serves on_augment)
       kind_serves (KindCode.value {of} {rest} {is} on_of) =

@@ -1,26 +1,29 @@
 -- Whole runs of a machine: one step with a host, what a machine comes to, and what a turn answers.
-use Rattle.std.specs.Prelude.{◌≡◌, ℕ, Bool, true, false, List, [], ◌∷◌, Option, Some, None}
-use Rattle.std.specs.Prelude.{Result, Ok, Err, ⊤, length, reverse, ◌++◌}
-use Rattle.bz_text.specs.declared.memory.Miss.{Miss}
-use Rattle.bz_text.specs.declared.memory.Miss.TheVariants as miss
+use Rattle.std.specs.Prelude.{◌≡◌, ℕ, List, [], ◌∷◌, Option, Some, None}
+use Rattle.std.specs.Prelude.{length, reverse, ◌++◌}
 use Rattle.star_code.specs.declared.code.Code.{Code}
 use Rattle.star_code.specs.declared.code.Instr.{Instr}
 use Rattle.star_code.specs.declared.code.Instr.TheVariants as instr
-use Rattle.star_core.specs.Hosts.{Asks, Field, HostCall, Meaning, Method, Refuses, Reply, Returns}
+use Rattle.star_core.specs.Hosts.{Asks, Field, HostCall, Lacks, Meaning, Method, Refuses, Reply}
+use Rattle.star_core.specs.Hosts.{Returns}
 use Rattle.star_core.specs.Stacks.{taken}
 use Rattle.star_core.specs.Tables.{Table, Within}
+use Rattle.star_core.specs.declared.faults.Fault.TheVariants as fault
+use Rattle.star_core.specs.declared.values.Args.{Args}
 use Rattle.star_core.specs.declared.values.Val.{Val}
 use Rattle.star_machine.specs.Configs.{Config, Doing, Leaves, Runs, block_of}
 use Rattle.star_machine.specs.Outcomes.{Breaks, Ends, Goes, Step}
 use Rattle.star_machine.specs.Steps.{block_ended, left, name_of, perform}
+use Rattle.star_meaning.specs.Arguments.{by_position, no_args}
 use Rattle.star_meaning.specs.Attributes.{Callee, Defined, Nothing, OfHost, OfLibrary}
 use Rattle.star_meaning.specs.Attributes.{attribute_of, callee_of}
-use Rattle.star_meaning.specs.Calls.{by_position}
 use Rattle.star_meaning.specs.Libraries.{Rows}
 use Rattle.star_meaning.specs.Results.{Done, Outcome, Refused, RefusedByHost, Unanswered}
-use Rattle.star_meaning.specs.Worlds.{World}
+use Rattle.star_meaning.specs.Worlds.{World, line_of}
 use Rattle.star_meaning.specs.declared.reasons.Attribute.{Attribute}
 use Rattle.star_meaning.specs.declared.reasons.Attribute.TheVariants as attribute
+use Rattle.star_meaning.specs.declared.reasons.Place.{Place}
+use Rattle.star_meaning.specs.declared.reasons.Reason.TheVariants as reason
 
 -- where a step with a host leads: on, or to the end of the run
 pub data Went (H : Type 0) : Type 0 where
@@ -37,11 +40,14 @@ abbrev pub replied_on : {H : Type 0} → Reply H → List Val → Config → Wen
 replied_on (Returns value heap host) below config =
     On (record config {
       stack = value ∷ below;
+      gathered = no_args;
       world = record config.world { heap = heap };
     }) host
 replied_on (Refuses refusal) below config =
     Over (RefusedByHost refusal config.world.place config.world.count)
 replied_on (Asks question) below config = Over (Unanswered question)
+replied_on Lacks below config =
+    Over (Refused (reason.Fault fault.Attr) config.world.place config.world.count)
 
 -- a call of a host, and the operands below its own; None where no host is called
 abbrev pub Wanted : Type 0
@@ -62,27 +68,28 @@ abbrev pub attribute_wanted : Option (List ℕ) → Config → Wanted
 attribute_wanted None config = None
 attribute_wanted (Some name) config = top_attribute config.stack name config
 
-abbrev pub method_wanted : Callee → List Val → List Val → Wanted
-method_wanted (Defined f) values below = None
-method_wanted (OfHost object method) values below =
-    Some (Method object method (by_position values), below)
-method_wanted OfLibrary values below = None
-method_wanted Nothing values below = None
+abbrev pub method_wanted : Callee → Args → Option Place → List Val → Wanted
+method_wanted (Defined f defaults) args place below = None
+method_wanted (OfHost object method) args place below =
+    Some (Method object method args (line_of place), below)
+method_wanted OfLibrary args place below = None
+method_wanted Nothing args place below = None
 
-abbrev pub callee_wanted : List Val → List Val → Config → Wanted
-callee_wanted values [] config = None
-callee_wanted values (f ∷ below) config =
-    method_wanted (callee_of config.world.heap f) values below
+abbrev pub callee_wanted : Args → List Val → Config → Wanted
+callee_wanted args [] config = None
+callee_wanted args (f ∷ below) config =
+    method_wanted (callee_of config.world.heap f) args config.world.place below
 
 abbrev pub call_wanted : Option (List Val × List Val) → Config → Wanted
 call_wanted None config = None
-call_wanted (Some top) config = callee_wanted top.0 top.1 config
+call_wanted (Some top) config = callee_wanted (by_position top.0) top.1 config
 
 -- the call of a host that an instruction makes
 unfoldable pub wanted : List Code → Instr → Config → Wanted
 wanted codes (instr.Attr index) config =
     attribute_wanted (name_of codes config.file index) config
 wanted codes (instr.Call count) config = call_wanted (taken count [] config.stack) config
+wanted codes instr.CallGathered config = callee_wanted config.gathered config.stack config
 wanted codes (instr.Begin line) config = None
 wanted codes instr.Tick config = None
 wanted codes (instr.Constant value) config = None
@@ -98,7 +105,14 @@ wanted codes (instr.Unary op) config = None
 wanted codes (instr.Binary op) config = None
 wanted codes (instr.Short truth block) config = None
 wanted codes (instr.If chosen other) config = None
+wanted codes (instr.Defaults function) config = None
 wanted codes (instr.Def function) config = None
+wanted codes instr.CheckItems config = None
+wanted codes instr.CheckKeywords config = None
+wanted codes (instr.Gather shape) config = None
+wanted codes (instr.Within block) config = None
+wanted codes instr.Collect config = None
+wanted codes instr.CollectEntry config = None
 wanted codes instr.Index config = None
 wanted codes instr.Slice config = None
 wanted codes instr.SetIndex config = None
@@ -110,7 +124,6 @@ wanted codes instr.Continue config = None
 wanted codes (instr.AugmentName op hops slot) config = None
 wanted codes instr.Fetch config = None
 wanted codes (instr.AugmentIndex op) config = None
-wanted codes instr.Unbuilt config = None
 wanted codes instr.NotAssignable config = None
 
 -- where a machine stands at the beginning of a file's code
@@ -120,6 +133,7 @@ file_begun codes number code world =
       file = number;
       doing = Runs (block_of codes number code.top);
       stack = [];
+      gathered = no_args;
       onward = [];
       callers = [];
       running = [];
@@ -133,6 +147,7 @@ call_begun number f values world =
       file = number;
       doing = Runs (instr.Call (length values) ∷ instr.Return ∷ []);
       stack = reverse values ++ (f ∷ []);
+      gathered = no_args;
       onward = [];
       callers = [];
       running = [];
