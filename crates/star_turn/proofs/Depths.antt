@@ -1,6 +1,6 @@
 -- The value below so many topmost ones.
 use Rattle.std.proofs.Common.{◌≡◌, ◌∙◌, ap, refl, sym, arith, ℕ, zero, suc, ◌-◌, ◌<◌, ◌≤◌}
-use Rattle.std.proofs.Common.{List, [], ◌∷◌, length, reverse, slice_get, Option, Some, None}
+use Rattle.std.proofs.Common.{List, [], ◌∷◌, length, reverse, slice_get, Some, None}
 use Rattle.std.proofs.lemmas.List.{get_or-reverse, length-reverse}
 use Rattle.std.proofs.lemmas.Option.{slice_get-get_or, slice_get_past}
 use Rattle.star_core.specs.Stacks.{taken}

@@ -1,12 +1,12 @@
 -- A step follows, and the last one of a turn tells.
-use Rattle.std.proofs.Common.{◌≡◌, ◌∙◌, ap, refl, sym, subst, ℕ, Bool, true, false, List, [], ◌∷◌}
-use Rattle.std.proofs.Common.{Option, Some, None, Result, Ok, Err}
-use Rattle.bz_base.specs.declared.refusals.Refusal.{Refusal}
+use Rattle.std.proofs.Common.{◌≡◌, ◌∙◌, refl, sym, subst, true, false, List, [], ◌∷◌}
+use Rattle.std.proofs.Common.{Some, None, Result, Ok, Err}
 use Rattle.bz_text.specs.declared.memory.Miss.{Miss}
 use Rattle.bz_text.specs.declared.memory.Miss.TheVariants as miss
 use Rattle.star_code.specs.declared.code.Code.{Code}
 use Rattle.star_code.specs.declared.code.Instr.{Instr}
-use Rattle.star_core.specs.Hosts.{Asks, HostCall, IsLawful, IsNoQuestion, Meaning, Refuses, Reply, Returns}
+use Rattle.star_core.specs.Hosts.{Asks, HostCall, IsLawful, IsNoQuestion, Lacks, Meaning, Refuses}
+use Rattle.star_core.specs.Hosts.{Reply, Returns}
 use Rattle.star_core.specs.Tables.{Table, Within}
 use Rattle.star_core.specs.declared.values.Val.{Val}
 use Rattle.star_machine.specs.Configs.{Config, Doing, Leaves, Runs}
@@ -14,9 +14,9 @@ use Rattle.star_machine.specs.Outcomes.{Acted, Breaks, Ends, Goes, Step}
 use Rattle.star_machine.specs.declared.machine.Next.{Next}
 use Rattle.star_machine.specs.declared.machine.Next.TheVariants as next
 use Rattle.star_meaning.specs.Libraries.{Rows}
-use Rattle.star_meaning.specs.Results.{Outcome, Unanswered}
+use Rattle.star_meaning.specs.Results.{Outcome}
 use Rattle.star_meaning.specs.declared.reasons.Reason.{Reason}
-use Rattle.star_runs.specs.Runs.{Comes, Follows, On, Over, Wanted, Went, act, acted, instructed}
+use Rattle.star_runs.specs.Runs.{Comes, Follows, On, Over, Wanted, act, acted, instructed}
 use Rattle.star_runs.specs.Runs.{on, over, replied_on, wanted, went}
 use Rattle.star_turn.specs.Turns.{IsAnswered, ParksAt, Tells, Told, WentTo, came_of, leads_on}
 use Rattle.star_turn.specs.declared.turns.Came.{Came}
@@ -48,6 +48,7 @@ replied_steady : {H : Type 0} (reply other : Reply H) (below : List Val) (config
 replied_steady (Returns value heap host_now) other below config to host same is = rw (same tt) is
 replied_steady (Refuses refusal) other below config to host same is = rw (same tt) is
 replied_steady (Asks question) other below config to host same is = cc
+replied_steady Lacks other below config to host same is = cc
 
 module _ {H : Type 0} (does : Meaning H HostCall) (library : Rows) (codes : List Code)
     (lawful : IsLawful does) (less more : Table) (within : Within less more) where
@@ -183,6 +184,7 @@ replied_over : {H : Type 0} (reply other : Reply H) (below : List Val) (config :
 replied_over (Returns value heap host_now) other below config outcome same answered is =
     rw (same tt) is
 replied_over (Refuses refusal) other below config outcome same answered is = rw (same tt) is
+replied_over Lacks other below config outcome same answered is = rw (same tt) is
 replied_over (Asks question) other below config outcome same answered is =
     absurd (subst IsAnswered (sym (same_outcome is)) answered)
 

@@ -7,6 +7,7 @@ use Rattle.star_code.specs.declared.code.Instr.{Instr}
 use Rattle.star_core.specs.Hosts.{HostCall, Meaning}
 use Rattle.star_core.specs.Stacks.{taken}
 use Rattle.star_core.specs.Tables.{Table}
+use Rattle.star_core.specs.declared.values.Args.{Args}
 use Rattle.star_core.specs.declared.values.Val.{Val}
 use Rattle.star_machine.specs.Configs.{Config, Doing}
 use Rattle.star_machine.specs.Outcomes.{Acted}
@@ -14,7 +15,8 @@ use Rattle.star_machine.specs.Steps.{name_of, perform}
 use Rattle.star_machine.specs.declared.machine.Next.{Next}
 use Rattle.star_meaning.specs.Libraries.{Rows}
 use Rattle.star_meaning.specs.declared.reasons.Reason.{Reason}
-use Rattle.star_runs.specs.Runs.{attribute_wanted, call_wanted, instructed, replied_on, wanted}
+use Rattle.star_runs.specs.Runs.{attribute_wanted, call_wanted, callee_wanted, instructed, replied_on}
+use Rattle.star_runs.specs.Runs.{wanted}
 use Rattle.star_turn.proofs.Following.{went_so}
 use Rattle.star_turn.proofs.Wanting.{asking_wanted}
 use Rattle.star_turn.specs.Asking.{asking_of, wanted_by}
@@ -39,6 +41,11 @@ call_still None config doing = refl
 call_still (Some (values, [])) config doing = refl
 call_still (Some (values, f ∷ below)) config doing = refl
 
+callee_still : (args : Args) (stack : List Val) (config : Config) (doing : Doing)
+    → callee_wanted args stack (record config { doing = doing }) ≡ callee_wanted args stack config
+callee_still args [] config doing = refl
+callee_still args (f ∷ below) config doing = refl
+
 wanted_still : (codes : List Code) (how : Asking) (config : Config) (doing : Doing)
     → wanted_by codes how (record config { doing = doing }) ≡ wanted_by codes how config
 wanted_still codes asking.Never config doing = refl
@@ -46,6 +53,8 @@ wanted_still codes (asking.Field index) config doing =
     attribute_still (name_of codes config.file index) config.stack config doing refl
 wanted_still codes (asking.Method count) config doing =
     call_still (taken count [] config.stack) config doing
+wanted_still codes asking.Gathered config doing =
+    callee_still config.gathered config.stack config doing
 
 by_way : (codes : List Code) (i : Instr) (how : Asking) (config : Config) (doing : Doing)
     → how ≡ asking_of i

@@ -1,5 +1,5 @@
 -- Which call of a host is wanted, by the object that answers.
-use Rattle.std.proofs.Common.{◌≡◌, ◌∙◌, ap, refl, sym, subst, ℕ, Bool, true, false, List, [], ◌∷◌}
+use Rattle.std.proofs.Common.{◌≡◌, ◌∙◌, ap, refl, sym, ℕ, Bool, true, false, List, [], ◌∷◌}
 use Rattle.std.proofs.Common.{Option, Some, None, slice_get, bytes_eq, if◌then◌else◌}
 use Rattle.star_code.specs.declared.code.Code.{Code}
 use Rattle.star_code.specs.declared.code.Instr.{Instr}
@@ -10,15 +10,19 @@ use Rattle.star_core.specs.LibraryNames.{has_method}
 use Rattle.star_core.specs.Stacks.{taken}
 use Rattle.star_core.specs.declared.cells.Cell.{Cell}
 use Rattle.star_core.specs.declared.cells.Cell.TheVariants as cell
+use Rattle.star_core.specs.declared.values.Args.{Args}
 use Rattle.star_core.specs.declared.values.NamedVal.{NamedVal}
 use Rattle.star_core.specs.declared.values.Val.{Val}
 use Rattle.star_core.specs.declared.values.Val.TheVariants as val
 use Rattle.star_machine.specs.Configs.{Config}
-use Rattle.star_meaning.specs.Attributes.{Callee, Defined, Nothing, OfHost, OfLibrary, attribute_in}
+use Rattle.star_meaning.specs.Arguments.{by_position}
+use Rattle.star_meaning.specs.Attributes.{attribute_in}
 use Rattle.star_meaning.specs.Attributes.{attribute_of, callee_in, callee_of, field_of, method_if}
 use Rattle.star_meaning.specs.Attributes.{method_in, method_of}
 use Rattle.star_meaning.specs.declared.reasons.Attribute.{Attribute}
+use Rattle.star_meaning.specs.Worlds.{line_of}
 use Rattle.star_meaning.specs.declared.reasons.Attribute.TheVariants as attribute
+use Rattle.star_meaning.specs.declared.reasons.Place.{Place}
 use Rattle.star_runs.specs.Runs.{Wanted, attribute_wanted, call_wanted, callee_wanted, field_wanted}
 use Rattle.star_runs.specs.Runs.{method_wanted, top_attribute, wanted}
 use Rattle.star_turn.proofs.Depths.{Few, Split, few_at, fewer, just, split_at}
@@ -32,6 +36,7 @@ pub asking_wanted : (codes : List Code) (i : Instr) (config : Config)
 unfolding wanted
 asking_wanted codes (instr.Attr index) config = refl
 asking_wanted codes (instr.Call count) config = refl
+asking_wanted codes instr.CallGathered config = refl
 asking_wanted codes (instr.Begin line) config = refl
 asking_wanted codes instr.Tick config = refl
 asking_wanted codes (instr.Constant value) config = refl
@@ -47,7 +52,14 @@ asking_wanted codes (instr.Unary op) config = refl
 asking_wanted codes (instr.Binary op) config = refl
 asking_wanted codes (instr.Short truth block) config = refl
 asking_wanted codes (instr.If chosen other) config = refl
+asking_wanted codes (instr.Defaults function) config = refl
 asking_wanted codes (instr.Def function) config = refl
+asking_wanted codes instr.CheckItems config = refl
+asking_wanted codes instr.CheckKeywords config = refl
+asking_wanted codes (instr.Gather shape) config = refl
+asking_wanted codes (instr.Within block) config = refl
+asking_wanted codes instr.Collect config = refl
+asking_wanted codes instr.CollectEntry config = refl
 asking_wanted codes instr.Index config = refl
 asking_wanted codes instr.Slice config = refl
 asking_wanted codes instr.SetIndex config = refl
@@ -59,7 +71,6 @@ asking_wanted codes instr.Continue config = refl
 asking_wanted codes (instr.AugmentName op hops slot) config = refl
 asking_wanted codes instr.Fetch config = refl
 asking_wanted codes (instr.AugmentIndex op) config = refl
-asking_wanted codes instr.Unbuilt config = refl
 asking_wanted codes instr.NotAssignable config = refl
 
 -- what a field of an object wants
@@ -143,64 +154,64 @@ top_at (top ∷ below) name config value at =
     }
 
 -- what a call of an object wants
-abbrev pub method_by : Option ℕ → List ℕ → List Val → List Val → Wanted
-method_by (Some object) name values below =
-    Some (Method object name (record { positional = values; named = [] }), below)
-method_by None name values below = None
+abbrev pub method_by : Option ℕ → List ℕ → Args → Option Place → List Val → Wanted
+method_by (Some object) name args place below =
+    Some (Method object name args (line_of place), below)
+method_by None name args place below = None
 
-method_to : (number : ℕ) (held : Option Cell) (name : List ℕ) (values below : List Val)
-    → method_by (object_in number held) name values below
-    ≡ method_wanted (method_in number held name) values below
-method_to number (Some (cell.Host kind fields)) name values below = refl
-method_to number (Some (cell.Path repo segments)) name values below = refl
-method_to number (Some (cell.Struct fields)) name values below = refl
-method_to number (Some (cell.Text text)) name values below = refl
-method_to number (Some (cell.List items)) name values below = refl
-method_to number (Some (cell.Dict entries)) name values below = refl
-method_to number (Some (cell.Tuple items)) name values below = refl
-method_to number (Some (cell.Range first stop step)) name values below = refl
-method_to number (Some (cell.Function function)) name values below = refl
-method_to number (Some (cell.Builtin builtin)) name values below = refl
-method_to number (Some (cell.Bound receiver method)) name values below = refl
-method_to number (Some (cell.Label label)) name values below = refl
-method_to number None name values below = refl
+method_to : (number : ℕ) (held : Option Cell) (name : List ℕ) (args : Args) (place : Option Place) (below : List Val)
+    → method_by (object_in number held) name args place below
+    ≡ method_wanted (method_in number held name) args place below
+method_to number (Some (cell.Host kind fields)) name args place below = refl
+method_to number (Some (cell.Path repo segments)) name args place below = refl
+method_to number (Some (cell.Struct fields)) name args place below = refl
+method_to number (Some (cell.Text text)) name args place below = refl
+method_to number (Some (cell.List items)) name args place below = refl
+method_to number (Some (cell.Dict entries)) name args place below = refl
+method_to number (Some (cell.Tuple items)) name args place below = refl
+method_to number (Some (cell.Range first stop step)) name args place below = refl
+method_to number (Some (cell.Function function)) name args place below = refl
+method_to number (Some (cell.Builtin builtin)) name args place below = refl
+method_to number (Some (cell.Bound receiver method)) name args place below = refl
+method_to number (Some (cell.Label label)) name args place below = refl
+method_to number None name args place below = refl
 
-bound_to : (heap : HeapState) (receiver : Val) (name : List ℕ) (values below : List Val)
-    → method_by (object_of heap receiver) name values below
-    ≡ method_wanted (method_of heap receiver name) values below
-bound_to heap val.None name values below = refl
-bound_to heap (val.Bool flag) name values below = refl
-bound_to heap (val.Int number) name values below = refl
-bound_to heap (val.Cell number) name values below =
-    method_to number (cell_at heap (val.Cell number)) name values below
+bound_to : (heap : HeapState) (receiver : Val) (name : List ℕ) (args : Args) (place : Option Place) (below : List Val)
+    → method_by (object_of heap receiver) name args place below
+    ≡ method_wanted (method_of heap receiver name) args place below
+bound_to heap val.None name args place below = refl
+bound_to heap (val.Bool flag) name args place below = refl
+bound_to heap (val.Int number) name args place below = refl
+bound_to heap (val.Cell number) name args place below =
+    method_to number (cell_at heap (val.Cell number)) name args place below
 
-call_in : (heap : HeapState) (number : ℕ) (held : Option Cell) (values below : List Val)
-    → method_by (called_in heap number held) (called_method held) values below
-    ≡ method_wanted (callee_in heap number held) values below
-call_in heap number (Some (cell.Host kind fields)) values below = refl
-call_in heap number (Some (cell.Bound receiver method)) values below =
-    bound_to heap receiver method values below
-call_in heap number (Some (cell.Path repo segments)) values below = refl
-call_in heap number (Some (cell.Struct fields)) values below = refl
-call_in heap number (Some (cell.Text text)) values below = refl
-call_in heap number (Some (cell.List items)) values below = refl
-call_in heap number (Some (cell.Dict entries)) values below = refl
-call_in heap number (Some (cell.Tuple items)) values below = refl
-call_in heap number (Some (cell.Range first stop step)) values below = refl
-call_in heap number (Some (cell.Function function)) values below = refl
-call_in heap number (Some (cell.Builtin builtin)) values below = refl
-call_in heap number (Some (cell.Label label)) values below = refl
-call_in heap number None values below = refl
+call_in : (heap : HeapState) (number : ℕ) (held : Option Cell) (args : Args) (place : Option Place) (below : List Val)
+    → method_by (called_in heap number held) (called_method held) args place below
+    ≡ method_wanted (callee_in heap number held) args place below
+call_in heap number (Some (cell.Host kind fields)) args place below = refl
+call_in heap number (Some (cell.Bound receiver method)) args place below =
+    bound_to heap receiver method args place below
+call_in heap number (Some (cell.Path repo segments)) args place below = refl
+call_in heap number (Some (cell.Struct fields)) args place below = refl
+call_in heap number (Some (cell.Text text)) args place below = refl
+call_in heap number (Some (cell.List items)) args place below = refl
+call_in heap number (Some (cell.Dict entries)) args place below = refl
+call_in heap number (Some (cell.Tuple items)) args place below = refl
+call_in heap number (Some (cell.Range first stop step)) args place below = refl
+call_in heap number (Some (cell.Function function)) args place below = refl
+call_in heap number (Some (cell.Builtin builtin)) args place below = refl
+call_in heap number (Some (cell.Label label)) args place below = refl
+call_in heap number None args place below = refl
 
-call_at : (heap : HeapState) (f : Val) (values below : List Val)
-    → method_by (called_object heap f) (called_method (cell_at heap f)) values below
-    ≡ method_wanted (callee_of heap f) values below
+call_at : (heap : HeapState) (f : Val) (args : Args) (place : Option Place) (below : List Val)
+    → method_by (called_object heap f) (called_method (cell_at heap f)) args place below
+    ≡ method_wanted (callee_of heap f) args place below
 unfolding callee_of
-call_at heap val.None values below = refl
-call_at heap (val.Bool flag) values below = refl
-call_at heap (val.Int number) values below = refl
-call_at heap (val.Cell number) values below =
-    call_in heap number (cell_at heap (val.Cell number)) values below
+call_at heap val.None args place below = refl
+call_at heap (val.Bool flag) args place below = refl
+call_at heap (val.Int number) args place below = refl
+call_at heap (val.Cell number) args place below =
+    call_in heap number (cell_at heap (val.Cell number)) args place below
 
 no_callee : (stack : List Val) (count : ℕ) (config : Config)
     → Few stack [] count
@@ -217,10 +228,10 @@ pub call_split : (stack : List Val) (count : ℕ) (config : Config) (f : Val)
     → (split : Split stack [] count f)
     → call_wanted (taken count [] stack) config
     ≡ method_by (called_object config.world.heap f) (called_method (cell_at config.world.heap f))
-    split.values split.below
+    (by_position split.values) config.world.place split.below
 call_split stack count config f split =
     ap (λ top. call_wanted top config) split.above
-    ∙ sym (call_at config.world.heap f split.values split.below)
+    ∙ sym (call_at config.world.heap f (by_position split.values) config.world.place split.below)
 
 abbrev Pair : Type 0
 Pair = List Val × List Val
@@ -250,7 +261,13 @@ pub field_found : (named : Option (List ℕ)) (name : List ℕ) (config : Config
     → named ≡ Some name
     → slice_get config.stack 0 ≡ Some value
     → object_of config.world.heap value ≡ Some object
-    → IsWanted (record { object = object; name = name; args = None; above = 0 })
+    → IsWanted (record {
+      object = object;
+      name = name;
+      line = line_of config.world.place;
+      args = None;
+      above = 0;
+    })
     (attribute_wanted named config) config.stack
 field_found named name config value object is at found =
     let top = top_at config.stack name config value at in
@@ -270,8 +287,8 @@ pub no_method : (stack : List Val) (count : ℕ) (config : Config) (f : Val)
 no_method stack count config f at none =
     let split = split_at count [] stack f at in
     call_split stack count config f split
-    ∙ ap (λ o. method_by o (called_method (cell_at config.world.heap f)) split.values split.below)
-    none
+    ∙ ap (λ o. method_by o (called_method (cell_at config.world.heap f))
+    (by_position split.values) config.world.place split.below) none
 
 pub method_found : (stack : List Val) (count : ℕ) (config : Config) (f : Val) (object : ℕ)
     (values rest : List Val)
@@ -281,7 +298,8 @@ pub method_found : (stack : List Val) (count : ℕ) (config : Config) (f : Val) 
     → IsWanted (record {
       object = object;
       name = called_method (cell_at config.world.heap f);
-      args = Some (record { positional = values; named = [] });
+      line = line_of config.world.place;
+      args = Some (by_position values);
       above = count;
     }) (call_wanted (taken count [] stack) config) stack
 method_found stack count config f object values rest at found there =
@@ -293,8 +311,52 @@ method_found stack count config f object values rest at found there =
       below = split.below;
       on_top = split.above;
       is = call_split stack count config f split
-          ∙ ap (λ o. method_by o (called_method (cell_at config.world.heap f)) split.values
-          split.below) found
-          ∙ ap (λ all. method_by (Some object) (called_method (cell_at config.world.heap f)) all
-          split.below) same;
+          ∙ ap (λ o. method_by o (called_method (cell_at config.world.heap f))
+          (by_position split.values) config.world.place split.below) found
+          ∙ ap (λ all. method_by (Some object) (called_method (cell_at config.world.heap f))
+          (by_position all) config.world.place split.below) same;
+    }
+
+-- a call with the arguments that were gathered
+pub no_gathered_top : (args : Args) (stack : List Val) (config : Config)
+    → slice_get stack 0 ≡ None
+    → callee_wanted args stack config ≡ None
+no_gathered_top args [] config at = refl
+no_gathered_top args (value ∷ below) config at = absurd (cc at)
+
+pub no_gathered : (args : Args) (stack : List Val) (config : Config) (f : Val)
+    → slice_get stack 0 ≡ Some f
+    → called_object config.world.heap f ≡ None
+    → callee_wanted args stack config ≡ None
+no_gathered args [] config f at none = absurd (cc at)
+no_gathered args (top ∷ below) config f at none =
+    let same : top ≡ f = cc at in
+    sym (call_at config.world.heap top args config.world.place below)
+    ∙ ap (λ o. method_by o (called_method (cell_at config.world.heap top)) args config.world.place
+    below) (ap (called_object config.world.heap) same ∙ none)
+
+pub gathered_found : (args : Args) (stack : List Val) (config : Config) (f : Val) (object : ℕ)
+    → slice_get stack 0 ≡ Some f
+    → called_object config.world.heap f ≡ Some object
+    → IsWanted (record {
+      object = object;
+      name = called_method (cell_at config.world.heap f);
+      line = line_of config.world.place;
+      args = Some args;
+      above = 0;
+    }) (callee_wanted args stack config) stack
+unfolding taken
+gathered_found args [] config f object at found = absurd (cc at)
+gathered_found args (top ∷ below) config f object at found =
+    let same : top ≡ f = cc at in
+    record {
+      values = [];
+      top = f;
+      below = below;
+      on_top = ap (λ v. Some ([], v ∷ below)) same;
+      is = sym (call_at config.world.heap top args config.world.place below)
+          ∙ ap (λ v. method_by (called_object config.world.heap v)
+          (called_method (cell_at config.world.heap v)) args config.world.place below) same
+          ∙ ap (λ o. method_by o (called_method (cell_at config.world.heap f)) args
+          config.world.place below) found;
     }

@@ -1,5 +1,5 @@
 -- Which instructions may call a host, and which object answers.
-use Rattle.std.specs.Prelude.{ℕ, List, [], ◌∷◌, Option, Some, None, option_map, reverse, slice_get}
+use Rattle.std.specs.Prelude.{ℕ, List, [], Option, Some, None, reverse, slice_get}
 use Rattle.star_code.specs.declared.code.Code.{Code}
 use Rattle.star_code.specs.declared.code.Instr.{Instr}
 use Rattle.star_code.specs.declared.code.Instr.TheVariants as instr
@@ -11,14 +11,15 @@ use Rattle.star_core.specs.declared.values.Val.{Val}
 use Rattle.star_core.specs.declared.values.Val.TheVariants as val
 use Rattle.star_machine.specs.Configs.{Config}
 use Rattle.star_machine.specs.Steps.{name_of}
-use Rattle.star_runs.specs.Runs.{Wanted, attribute_wanted, call_wanted}
+use Rattle.star_runs.specs.Runs.{Wanted, attribute_wanted, call_wanted, callee_wanted}
 use Rattle.star_turn.specs.declared.asking.Asking.{Asking}
 use Rattle.star_turn.specs.declared.asking.Asking.TheVariants as asking
 
--- a field is looked at by `Attr`, and a method is called by `Call`
+-- a field is looked at by `Attr`, and a method is called by `Call` or `CallGathered`
 abbrev pub asking_of : Instr → Asking
 asking_of (instr.Attr index) = asking.Field index
 asking_of (instr.Call count) = asking.Method count
+asking_of instr.CallGathered = asking.Gathered
 asking_of (instr.Begin line) = asking.Never
 asking_of instr.Tick = asking.Never
 asking_of (instr.Constant value) = asking.Never
@@ -34,7 +35,14 @@ asking_of (instr.Unary op) = asking.Never
 asking_of (instr.Binary op) = asking.Never
 asking_of (instr.Short wanted block) = asking.Never
 asking_of (instr.If chosen other) = asking.Never
+asking_of (instr.Defaults function) = asking.Never
 asking_of (instr.Def function) = asking.Never
+asking_of instr.CheckItems = asking.Never
+asking_of instr.CheckKeywords = asking.Never
+asking_of (instr.Gather shape) = asking.Never
+asking_of (instr.Within block) = asking.Never
+asking_of instr.Collect = asking.Never
+asking_of instr.CollectEntry = asking.Never
 asking_of instr.Index = asking.Never
 asking_of instr.Slice = asking.Never
 asking_of instr.SetIndex = asking.Never
@@ -46,7 +54,6 @@ asking_of instr.Continue = asking.Never
 asking_of (instr.AugmentName op hops slot) = asking.Never
 asking_of instr.Fetch = asking.Never
 asking_of (instr.AugmentIndex op) = asking.Never
-asking_of instr.Unbuilt = asking.Never
 asking_of instr.NotAssignable = asking.Never
 
 -- the call of a host that such an instruction makes
@@ -55,6 +62,7 @@ wanted_by codes asking.Never config = None
 wanted_by codes (asking.Field index) config =
     attribute_wanted (name_of codes config.file index) config
 wanted_by codes (asking.Method count) config = call_wanted (taken count [] config.stack) config
+wanted_by codes asking.Gathered config = callee_wanted config.gathered config.stack config
 
 -- the value before so many last ones
 abbrev pub before_last : ℕ → List Val → Option Val

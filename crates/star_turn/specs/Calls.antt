@@ -1,5 +1,5 @@
 -- A call of a host as the code has it, and what is done with the host's value.
-use Rattle.std.specs.Prelude.{◌≡◌, ℕ, List, [], ◌∷◌, Option, Some, None, MatchOption}
+use Rattle.std.specs.Prelude.{◌≡◌, ℕ, List, [], ◌∷◌, Option, Some, None}
 use Rattle.std.specs.Prelude.{Result, Ok, Err, ⊤}
 use Rattle.bz_text.specs.declared.memory.Miss.{Miss}
 use Rattle.bz_text.specs.declared.memory.Miss.TheVariants as miss
@@ -9,6 +9,7 @@ use Rattle.star_core.specs.declared.faults.Fault.TheVariants as fault
 use Rattle.star_core.specs.declared.values.Args.{Args}
 use Rattle.star_core.specs.declared.values.Val.{Val}
 use Rattle.star_machine.specs.declared.machine.Machine.{Machine}
+use Rattle.star_meaning.specs.Arguments.{no_args}
 use Rattle.star_meaning.specs.declared.reasons.Reason.{Reason}
 use Rattle.star_meaning.specs.declared.reasons.Reason.TheVariants as reason
 use Rattle.star_runs.specs.Runs.{Wanted}
@@ -16,13 +17,13 @@ use Rattle.star_turn.specs.declared.calls.Call.{Call}
 use Rattle.star_turn.specs.declared.turns.Came.{Came}
 use Rattle.star_turn.specs.declared.turns.Came.TheVariants as came
 
-abbrev pub seen_with : ℕ → List ℕ → Option Args → HostCall
-seen_with object name None = Field object name
-seen_with object name (Some args) = Method object name args
+abbrev pub seen_with : ℕ → List ℕ → ℕ → Option Args → HostCall
+seen_with object name line None = Field object name
+seen_with object name line (Some args) = Method object name args line
 
 -- what is called
 abbrev pub call_seen : Call → HostCall
-call_seen call = seen_with call.object call.name call.args
+call_seen call = seen_with call.object call.name call.line call.args
 
 -- a call that is wanted, of what lies below so many operands
 pub record IsWanted (call : Call) (wanted : Wanted) (stack : List Val) : Type 0 where
@@ -41,10 +42,14 @@ Found (Some call) wanted stack = IsWanted call wanted stack
 abbrev pub moved : ℕ → Machine → Machine
 moved next machine = record machine { task = record machine.task { next = next } }
 
--- a machine with that value on top of these operands, before another instruction
+-- a machine with that value on top of these operands, and no arguments gathered, before another
+-- instruction
 abbrev pub put : Val → ℕ → List Val → Machine → Machine
 put value next below machine =
-    record machine { task = record machine.task { next = next; stack = value ∷ below } }
+    record machine {
+      gathered = no_args;
+      task = record machine.task { next = next; stack = value ∷ below };
+    }
 
 -- what lies below the one that is called or looked at
 abbrev pub below_one : Option (List Val × List Val) → Option (List Val)

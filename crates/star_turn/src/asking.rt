@@ -7,12 +7,13 @@ use star_code::Instr;
 use star_core::{Cell, Heap, Stack, Val};
 
 /// How an instruction may call a host: for a field, by the number of its name, or for a method,
-/// with so many arguments.
+/// with so many arguments, or with those that were gathered.
 #[derive(Clone, Copy, Debug, PartialEq, Eq)]
 pub enum Asking {
     Never,
     Field(usize),
     Method(usize),
+    Gathered,
 }
 
 pub(crate) fn how_asked(instr: Instr) -> Asking
@@ -21,6 +22,7 @@ pub(crate) fn how_asked(instr: Instr) -> Asking
     match instr {
         Instr::Attr(index) => Asking::Field(index),
         Instr::Call(count) => Asking::Method(count),
+        Instr::CallGathered => Asking::Gathered,
         _ => Asking::Never,
     }
 }

@@ -5,7 +5,7 @@ ghost use Rattle.star_core.specs.Hosts.{Replied};
 ghost use Rattle.star_core.specs.Stacks.{taken};
 ghost use Rattle.star_machine.specs.Configs.{config_of};
 ghost use Rattle.star_machine.specs.Steps as steps;
-ghost use Rattle.star_runs.specs.Runs.{attribute_wanted, call_wanted, replied_on};
+ghost use Rattle.star_runs.specs.Runs.{attribute_wanted, call_wanted, callee_wanted, replied_on};
 ghost use Rattle.star_turn.specs.Calls.{Answered, Found, below_one, call_seen, moved};
 ghost use Rattle.star_turn.specs.Turns.{WentTo};
 
@@ -13,17 +13,20 @@ use crate::asking::{called_method, called_object, object, value_below};
 use crate::turns::Came;
 use bz_text::{May, Mem, Miss, Seq, Txt};
 use star_code::Code;
-use star_core::{Answers, Args, Fault, Heap, Host, HostStep, Val};
-use star_machine::{Machine, name_of};
-use star_meaning::Reason;
+use star_core::{Answers, Args, Fault, Heap, Host, HostStep, NamedVal, Val};
+use star_library::copy_of;
+use star_machine::{Machine, name_of, no_args};
+use star_meaning::{Reason, line_of};
 use std::alloc::Global;
 
-/// A call of a host: the object, the name of the method or of the field, the arguments of a method,
-/// and how many operands lie above the one that is called or looked at.
+/// A call of a host: the object, the name of the method or of the field, the line of the statement
+/// that runs, the arguments of a method, and how many operands lie above the one that is called or
+/// looked at.
 #[derive(Drop)]
 pub struct Call {
     pub object: u32,
     pub name: Txt,
+    pub line: u64,
     pub args: Option<Args>,
     pub above: usize,
 }
@@ -46,6 +49,7 @@ pub(crate) fn field_call(codes: &[Code], machine: &Machine, index: usize) -> Mem
     Ok(Some(Call {
         object,
         name: name.copy(machine.alloc)?,
+        line: line_of(machine.task.place),
         args: None,
         above: 0,
     }))
@@ -69,12 +73,57 @@ pub(crate) fn method_call(codes: &[Code], machine: &Machine, count: usize) -> Me
     Ok(Some(Call {
         object,
         name: Txt::of(machine.alloc, called_method(&machine.heap, &f))?,
+        line: line_of(machine.task.place),
         args: Some(Args {
             positional: Seq::of_vec(values),
             named: Seq::new(machine.alloc),
         }),
         above: count,
     }))
+}
+
+/// The method of an object that is called with the arguments that were gathered.
+pub(crate) fn gathered_call(codes: &[Code], machine: &Machine) -> Mem<Option<Call>>
+    ensures { IfOk result (λ call. Found call
+        (callee_wanted machine.now.gathered machine.now.task.stack
+        (config_of codes.now machine.now)) machine.now.task.stack) }
+{
+    let Some(f) = value_below(&machine.task.stack, 0) else {
+        return Ok(None);
+    };
+    let Some(object) = called_object(&machine.heap, &f) else {
+        return Ok(None);
+    };
+    Ok(Some(Call {
+        object,
+        name: Txt::of(machine.alloc, called_method(&machine.heap, &f))?,
+        line: line_of(machine.task.place),
+        args: Some(copy_args(machine.alloc, &machine.gathered)?),
+        above: 0,
+    }))
+}
+
+fn copy_args(alloc: Global, args: &Args) -> Mem<Args>
+    ensures { IfOk result (λ copy. copy ≡ args.now) }
+{
+    Ok(Args {
+        positional: copy_of(alloc, args.positional.items())?,
+        named: copy_named(alloc, args.named.items())?,
+    })
+}
+
+fn copy_named(alloc: Global, named: &[NamedVal]) -> Mem<Seq<NamedVal>>
+    ensures { IfOk result (λ copy. copy ≡ named.now) }
+{
+    let mut copy = Vec::new(alloc);
+    'copying: for one in named {
+        let other = NamedVal {
+            name: one.name.copy(alloc)?,
+            val: one.val,
+        };
+        copy.push(other)?;
+    }
+    Ok(Seq::of_vec(copy))
 }
 
 /// Calls a host, which leaves all as it was where it asks.
@@ -97,6 +146,7 @@ pub(crate) fn ask<H: Host>(
         HostStep::Value(value) => answered(machine, call.above, next, value),
         HostStep::Refused(refusal) => Ok(Came::Denied(refusal)),
         HostStep::Asks(question) => Ok(Came::Asks(question)),
+        HostStep::NoAttribute => Err(Miss::Because(Reason::Fault(Fault::Attr))),
     }
 }
 
@@ -112,7 +162,10 @@ fn called<H: Host>(
 {
     match &call.args {
         None => host.field(alloc, heap, call.object, call.name.as_str(), answers),
-        Some(args) => host.call(alloc, heap, call.object, call.name.as_str(), args, answers),
+        Some(args) => {
+            let name = call.name.as_str();
+            host.call(alloc, heap, call.object, name, args, call.line, answers)
+        }
     }
 }
 
@@ -127,6 +180,7 @@ fn answered(machine: &mut Machine, above: usize, next: usize, value: Val) -> May
     if machine.task.stack.pop().is_none() {
         return Err(Miss::Because(Reason::Fault(Fault::Kind)));
     }
+    machine.gathered = no_args(machine.alloc);
     machine.task.stack.push(value)?;
     machine.task.next = next;
     Ok(Came::On)

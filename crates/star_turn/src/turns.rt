@@ -8,7 +8,7 @@ ghost use Rattle.star_turn.specs.Turns as spec;
 ghost use Rattle.star_turn.specs.Turns.{ParksAt, Tells, WentTo};
 
 use crate::asking::{Asking, how_asked};
-use crate::calls::{Call, ask, field_call, method_call};
+use crate::calls::{Call, ask, field_call, gathered_call, method_call};
 use bz_base::Refusal;
 use bz_text::{May, Mem, Miss};
 use star_code::{Code, Instr};
@@ -64,6 +64,7 @@ fn call_of(codes: &[Code], machine: &Machine, how: Asking) -> Mem<Option<Call>>
         Asking::Never => Ok(None),
         Asking::Field(index) => field_call(codes, machine, index),
         Asking::Method(count) => method_call(codes, machine, count),
+        Asking::Gathered => gathered_call(codes, machine),
     }
 }
 

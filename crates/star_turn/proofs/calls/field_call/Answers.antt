@@ -13,7 +13,7 @@ returns-in_default-object c =
 
 pub returns : goal.returns
 returns c =
-    rw (c.in_ok-copy.ensures)
+    rw (c.in_ok-copy.ensures, c.line_of.ensures)
     (field_found _ c.in-Some.name.now (config_of c.args.codes.now c.args.machine.now) _ _
     (sym c.name_of.ensures ∙ ap option_copied c.in-Some.is)
     (sym c.value_below.ensures ∙ c.in-Some-value_below.is)

@@ -1,4 +1,4 @@
-use Rattle.std.proofs.Common.{◌≡◌, ap, sym, subst, ◌∙◌, List, [], MatchOption, None, Some}
+use Rattle.std.proofs.Common.{◌≡◌, sym, subst, ◌∙◌, List, [], MatchOption, None, Some}
 use Rattle.star_core.specs.Stacks.{taken}
 use Rattle.star_core.specs.declared.values.Val.{Val}
 use Rattle.star_machine.specs.Configs.{config_of}
@@ -25,7 +25,13 @@ returns c =
     (λ top. (below : List Val)
     × (taken c.args.count [] c.args.machine.now.task.stack ≡ Some (top.items, below))))
     c.in-Some-2.is c.in_ok-values.ensures in
-    rw (c.in_ok-of.ensures, c.of_vec.ensures, c.new.ensures, c.called_method.ensures)
+    rw (
+      c.in_ok-of.ensures,
+      c.line_of.ensures,
+      c.of_vec.ensures,
+      c.new.ensures,
+      c.called_method.ensures,
+    )
     (method_found c.args.machine.now.task.stack c.args.count
     (config_of c.args.codes.now c.args.machine.now) c.in-Some.f c.in-Some-called_object.object
     c.in-Some-2.values.items copied.0

@@ -1,4 +1,4 @@
-use Rattle.std.proofs.Common.{◌≡◌, ap, sym, subst, ◌∙◌, None, Some}
+use Rattle.std.proofs.Common.{subst}
 use Rattle.star_machine.specs.Configs.{config_of}
 use Rattle.star_turn.proofs.Running.{asked_so, unasked_so}
 use Rattle.star_turn.specs.Asking.{wanted_by}
