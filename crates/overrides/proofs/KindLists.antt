@@ -1,4 +1,7 @@
 -- Overrides kept under owned texts, and those of a list.
+use Rattle.std.proofs.lemmas.Option.{slice_get-map}
+use Rattle.std.specs.List.{slice_get}
+use Rattle.std.specs.Option.{option_map}
 use Rattle.std.proofs.Common.{◌≡◌, ◌≢◌, ℕ, suc, ◌+◌, ◌<◌, get_or, Bool, true, false, List, []}
 use Rattle.std.proofs.Common.{◌∷◌, ◌++◌, drop, None, Some, String, string_bytes, length, map}
 use Rattle.std.proofs.Common.{if◌then◌else◌, refl, ap, sym, ◌∙◌, arith}
@@ -91,3 +94,16 @@ pub next_absent : (pairs : List (List ℕ × OverrideKind)) (overrides : List Ov
 next_absent pairs overrides i one differ below is e =
     absent pairs (map named_kind (drop (i + 1) overrides)) (named_kind one) overrides differ
     (ap (λ left. pairs ++ map named_kind left) (sym (drop-next overrides i one below is)) ∙ e)
+
+-- the name of the override at an index
+pub names-at : (entries : List (String Global × OverrideKind)) (index : ℕ)
+    (one : String Global × OverrideKind)
+    → slice_get entries index ≡ Some one
+    → slice_get (map (λ kind. kind.0) (kinds_of entries)) index ≡ Some (string_bytes one.0)
+names-at entries index one there =
+    slice_get-map (λ (kind : List ℕ × OverrideKind). kind.0) (kinds_of entries) index
+    ∙ ap (option_map (λ (kind : List ℕ × OverrideKind). kind.0))
+    (slice_get-map (λ (entry : String Global × OverrideKind). (string_bytes entry.0, entry.1))
+    entries index
+    ∙ ap (option_map (λ (entry : String Global × OverrideKind). (string_bytes entry.0, entry.1)))
+    there)

@@ -35,6 +35,10 @@ overrides_of root =
       kinds = map named_kind root.overrides;
     }
 
+-- the names of the overridden modules, in the order of the root's file
+abbrev pub names_of : RootOverrides → List (List ℕ)
+names_of overrides = map (λ one. one.0) overrides.kinds
+
 -- the override of a module
 abbrev pub kind_of : List ℕ → List (List ℕ × OverrideKind) → Option OverrideKind
 kind_of name [] = None

@@ -1,11 +1,12 @@
 //! The overrides of the root, in a map by name.
-ghost use Rattle.std.specs.Prelude.{◌≡◌, ◌++◌, [], ◌∷◌, None, IfOk, OnOk, map};
+ghost use Rattle.std.specs.Prelude.{◌≡◌, ◌++◌, [], ◌∷◌, None, IfOk, OnOk, length, map};
+ghost use Rattle.std.specs.Prelude.{slice_get};
 ghost use Rattle.std.specs.Option.{option_copied};
 ghost use Rattle.bz_text.specs.Answers.{Gives};
 ghost use Rattle.overrides.specs.Overrides as spec;
 ghost use Rattle.overrides.specs.Overrides.{NamesDiffer, effective_of};
 ghost use Rattle.overrides.specs.Overrides.{kind_of, kinds_of};
-ghost use Rattle.overrides.specs.Overrides.{named_kind, overrides_of};
+ghost use Rattle.overrides.specs.Overrides.{named_kind, names_of, overrides_of};
 
 use crate::effective::{Effective, module, version_under};
 use crate::kind_copies::copy_of_kind;
@@ -58,6 +59,21 @@ impl Overrides {
         ensures { option_copied result ≡ kind_of name.now self.now.kinds }
     {
         self.kinds.get(name)
+    }
+
+    /// How many modules are overridden.
+    pub fn len(&self) -> usize
+        ensures { result ≡ length self.now.kinds }
+    {
+        self.kinds.len()
+    }
+
+    /// The name of the module of the override at an index, in the order of the root's file.
+    pub fn name_at(&self, index: usize) -> Option<&str>
+        ensures { option_copied result ≡ slice_get (names_of self.now) index }
+    {
+        let (name, _) = self.kinds.get_index(index)?;
+        Some(name.as_str())
     }
 
     fn is_root(&self, name: &str) -> bool

@@ -1,0 +1,4 @@
+pub mod Choices
+pub mod Refusals
+pub mod Selection
+pub mod Tables
