@@ -51,7 +51,7 @@ method_returns_well false host heap table =
 
 returns_well : (host : MemHost) (heap : HeapState) (call : HostCall) (table : Table)
     → ReturnsWell heap (mem_meaning host heap call table)
-returns_well host heap (Method object name args) table =
+returns_well host heap (Method object name args line) table =
     method_returns_well (bytes_eq name (codes "count")) host heap table
 returns_well host heap (Field object name) table =
     told_returns_well (answer_in table question.OsName) host heap
@@ -81,7 +81,7 @@ method_asks_anew false host heap table =
 
 asks_anew : (host : MemHost) (heap : HeapState) (call : HostCall) (table : Table)
     → AsksAnew table (mem_meaning host heap call table)
-asks_anew host heap (Method object name args) table =
+asks_anew host heap (Method object name args line) table =
     method_asks_anew (bytes_eq name (codes "count")) host heap table
 asks_anew host heap (Field object name) table =
     told_asks_anew (answer_in table question.OsName) host heap table refl
@@ -108,7 +108,7 @@ steady : (host : MemHost) (heap : HeapState) (call : HostCall) (less more : Tabl
     → Within less more
     → IsNoQuestion (mem_meaning host heap call less)
     → mem_meaning host heap call more ≡ mem_meaning host heap call less
-steady host heap (Method object name args) less more within no_question =
+steady host heap (Method object name args line) less more within no_question =
     method_steady (bytes_eq name (codes "count")) host heap less more within no_question
 steady host heap (Field object name) less more within no_question =
     told_steady (answer_in less question.OsName) (answer_in more question.OsName) host heap

@@ -42,6 +42,6 @@ abbrev pub system_name : MemHost → HeapState → Table → Reply MemHost
 system_name host heap table = told_name (answer_in table question.OsName) host heap
 
 abbrev pub mem_meaning : Meaning MemHost HostCall
-mem_meaning host heap (Method object name args) table =
+mem_meaning host heap (Method object name args line) table =
     if bytes_eq name (codes "count") then counted_call host heap else system_name host heap table
 mem_meaning host heap (Field object name) table = system_name host heap table

@@ -18,13 +18,15 @@ pub enum HostStep {
     Value(Val),
     Refused(Refusal),
     Asks(Question),
+    /// The object has no such field or method.
+    NoAttribute,
 }
 
 /// The objects that an evaluation calls. `meaning` is what a call does.
 pub trait Host {
     ghost meaning: { Meaning Self HostCall };
 
-    /// Calls a method of an object.
+    /// Calls a method of an object, by a statement that begins at a line; 0 where none runs.
     fn call(
         &mut self,
         alloc: Global,
@@ -32,10 +34,11 @@ pub trait Host {
         object: u32,
         method: &str,
         args: &Args,
+        line: u64,
         answers: &Answers,
     ) -> Mem<HostStep>
         ensures { Replied
-            (meaning self.old heap.old (Method object method.now args.now) answers.now)
+            (meaning self.old heap.old (Method object method.now args.now line) answers.now)
             result self.old self.new heap.old heap.new };
 
     /// Looks at a field of an object.

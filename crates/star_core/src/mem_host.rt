@@ -57,6 +57,7 @@ impl Host for MemHost {
         _object: u32,
         method: &str,
         _args: &Args,
+        _line: u64,
         answers: &Answers,
     ) -> Mem<HostStep> {
         if method == "count" {

@@ -54,7 +54,7 @@ method_returns_well false host heap table =
 
 returns_well : (host : MethodHost) (heap : HeapState) (call : HostCall) (table : Table)
     → ReturnsWell heap (methods_meaning host heap call table)
-returns_well host heap (Method object name args) table =
+returns_well host heap (Method object name args line) table =
     method_returns_well (bytes_eq name (codes "count")) host heap table
 returns_well host heap (Field object name) table =
     made_returns_well (bound object name) (sum_for (bound object name) (size_of (bound object name)) heap)
@@ -85,7 +85,7 @@ method_asks_anew false host heap table =
 
 asks_anew : (host : MethodHost) (heap : HeapState) (call : HostCall) (table : Table)
     → AsksAnew table (methods_meaning host heap call table)
-asks_anew host heap (Method object name args) table =
+asks_anew host heap (Method object name args line) table =
     method_asks_anew (bytes_eq name (codes "count")) host heap table
 asks_anew host heap (Field object name) table =
     given_asks_anew (made (bound object name) heap) host table
@@ -112,7 +112,7 @@ steady : (host : MethodHost) (heap : HeapState) (call : HostCall) (less more : T
     → Within less more
     → IsNoQuestion (methods_meaning host heap call less)
     → methods_meaning host heap call more ≡ methods_meaning host heap call less
-steady host heap (Method object name args) less more within no_question =
+steady host heap (Method object name args line) less more within no_question =
     method_steady (bytes_eq name (codes "count")) host heap less more within no_question
 steady host heap (Field object name) less more within no_question = refl
 

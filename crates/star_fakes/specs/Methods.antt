@@ -46,7 +46,7 @@ abbrev pub variable_text : MethodHost → HeapState → Table → Reply MethodHo
 variable_text host heap table = told_text (answer_in table the_variable) host heap
 
 abbrev pub methods_meaning : Meaning MethodHost HostCall
-methods_meaning host heap (Method object name args) table =
+methods_meaning host heap (Method object name args line) table =
     if bytes_eq name (codes "count") then counted_call host heap else variable_text host heap table
 methods_meaning host heap (Field object name) table =
     given (made (cell.Bound (val.Cell object) name) heap) host

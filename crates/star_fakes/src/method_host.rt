@@ -53,6 +53,7 @@ impl Host for MethodHost {
         _object: u32,
         method: &str,
         _args: &Args,
+        _line: u64,
         answers: &Answers,
     ) -> Mem<HostStep> {
         if method == "count" {

@@ -64,7 +64,7 @@ fn called<H: Host>(host: &mut H, alloc: Global, method: &str, known: &Answers) -
         positional: Seq::new(alloc),
         named: Seq::new(alloc),
     };
-    match host.call(alloc, &mut heap, 0, method, &args, known)? {
+    match host.call(alloc, &mut heap, 0, method, &args, 1, known)? {
         HostStep::Value(Val::Int(count)) => Ok(Some(count)),
         HostStep::Asks(Question::OsName) => Ok(None),
         _ => Ok(Some(-1)),
