@@ -50,7 +50,7 @@ fn begins_as_module(bytes: &[u8]) -> bool
 {
     match bytes {
         [] => false,
-        [first, ..] => first.is_ascii_lowercase() && bytes.iter().all(|b| module_byte(*b)),
+        [first, ..] => lower_byte(*first) && has_module_bytes(bytes),
     }
 }
 
@@ -59,7 +59,7 @@ fn begins_as_repository(bytes: &[u8]) -> bool
 {
     match bytes {
         [] => false,
-        [first, ..] => first.is_ascii_alphabetic() && bytes.iter().all(|b| apparent_byte(*b)),
+        [first, ..] => alphabetic_byte(*first) && has_apparent_bytes(bytes),
     }
 }
 
@@ -69,8 +69,26 @@ fn begins_as_identifier(bytes: &[u8]) -> bool
 {
     match bytes {
         [] => false,
-        [first, ..] => letter_byte(*first) && bytes.iter().all(|b| identifier_byte(*b)),
+        [first, ..] => letter_byte(*first) && has_identifier_bytes(bytes),
     }
+}
+
+fn has_module_bytes(bytes: &[u8]) -> bool
+    ensures { result ≡ list_all is_module_byte bytes.now }
+{
+    bytes.iter().all(|b| module_byte(*b))
+}
+
+fn has_apparent_bytes(bytes: &[u8]) -> bool
+    ensures { result ≡ list_all is_apparent_byte bytes.now }
+{
+    bytes.iter().all(|b| apparent_byte(*b))
+}
+
+fn has_identifier_bytes(bytes: &[u8]) -> bool
+    ensures { result ≡ list_all (λ b. is_ascii_alphanumeric b || b == 95) bytes.now }
+{
+    bytes.iter().all(|b| identifier_byte(*b))
 }
 
 fn ends_as_module(bytes: &[u8]) -> bool
@@ -104,6 +122,18 @@ fn joint_byte(b: u8) -> bool
     ensures { result ≡ is_joint b }
 {
     b == b'_' || b == b'.' || b == b'-'
+}
+
+fn lower_byte(b: u8) -> bool
+    ensures { result ≡ is_ascii_lowercase b }
+{
+    b.is_ascii_lowercase()
+}
+
+fn alphabetic_byte(b: u8) -> bool
+    ensures { result ≡ is_ascii_alphabetic b }
+{
+    b.is_ascii_alphabetic()
 }
 
 fn letter_byte(b: u8) -> bool

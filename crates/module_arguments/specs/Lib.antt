@@ -1,0 +1,6 @@
+pub mod Arguments
+pub mod Attributes
+pub mod Directives
+pub mod GivenValues
+pub mod Objections
+pub mod Objects
