@@ -54,8 +54,6 @@ directive_name directive.SingleVersionOverride = codes "single_version_override"
 directive_name directive.UseExtension = codes "use_extension"
 directive_name directive.UseRepo = codes "use_repo"
 directive_name directive.UseRepoRule = codes "use_repo_rule"
-directive_name directive.Tag = codes "tag"
-directive_name directive.Repository = codes "repository"
 
 -- the directives that have names
 unfoldable pub all_directives : List Directive
@@ -149,8 +147,10 @@ parameters_of directive.UseRepo =
 parameters_of directive.UseRepoRule =
     needed parameter.RepoRuleBzlFile (kind.Text text.Any)
     ∷ needed parameter.RepoRuleName (kind.Text text.Any) ∷ []
-parameters_of directive.Tag = []
-parameters_of directive.Repository =
+
+-- the parameters of a call that declares a repository
+unfoldable pub repository_parameters : List Parameter
+repository_parameters =
     needed_name parameter.Name (kind.Text (text.Name name.Generated))
     ∷ named parameter.DevDependency kind.Flag ∷ []
 
@@ -179,5 +179,7 @@ shape_of directive.SingleVersionOverride = shape 6 false false
 shape_of directive.UseExtension = shape 2 false false
 shape_of directive.UseRepo = shape 1 true true
 shape_of directive.UseRepoRule = shape 2 false false
-shape_of directive.Tag = shape 0 false true
-shape_of directive.Repository = shape 0 false true
+
+-- a call whose arguments are attributes takes named ones alone
+abbrev pub attribute_shape : Shape
+attribute_shape = shape 0 false true

@@ -6,10 +6,10 @@ use Rattle.std.specs.Prelude.{bytes_eq, slice_get, if◌then◌else◌}
 use Rattle.std.specs.List.{list_any}
 use Rattle.bz_base.specs.Names.{is_module_name, is_repository_name}
 use Rattle.bz_base.specs.Paths.{joined}
-use Rattle.bz_base.specs.declared.refusals.Code.TheVariants.{BadName, BadVersion, FewVersions}
+use Rattle.bz_base.specs.declared.refusals.Code.TheVariants as code
 use Rattle.bz_base.specs.declared.tree_path.BadPath.{BadPath}
 use Rattle.bz_version.specs.Scan.{version_of}
-use Rattle.bz_version.specs.declared.versions.BadVersion.{BadVersion as NoVersion}
+use Rattle.bz_version.specs.declared.versions.BadVersion.{BadVersion}
 use Rattle.module_names.specs.ExportedNames.{is_exported_name}
 use Rattle.module_values.specs.TextLists.{text_at, texts_of}
 use Rattle.registry_index.specs.Registries.{is_registry}
@@ -50,12 +50,12 @@ is_name names.Exported value = is_exported_name value
 
 abbrev pub name_given : NameKind → List ℕ → ReadGiven
 name_given names value =
-    if is_name names value then Ok (given.Text value) else Err (objection BadName value)
+    if is_name names value then Ok (given.Text value) else Err (objection code.BadName value)
 
 -- a version as it is kept, without BUILD
-abbrev pub version_read : Result (List ℕ) NoVersion → List ℕ → Result (List ℕ) Objection
+abbrev pub version_read : Result (List ℕ) BadVersion → List ℕ → Result (List ℕ) Objection
 version_read (Ok kept) value = Ok kept
-version_read (Err fault) value = Err (objection BadVersion value)
+version_read (Err fault) value = Err (objection code.BadVersion value)
 
 abbrev pub version_kept : List ℕ → Result (List ℕ) Objection
 version_kept value = version_read (version_of value) value
@@ -137,7 +137,7 @@ abbrev pub enough : List Given → Result (List (List ℕ)) Objection → ReadGi
 enough before (Err objection) = Err objection
 enough before (Ok versions) =
     if some_differ versions then Ok (given.Texts versions)
-    else Err (objection FewVersions (given_text 0 before))
+    else Err (objection code.FewVersions (given_text 0 before))
 
 abbrev pub versions_given : ParameterName → List Given → Option (List (List ℕ)) → ReadGiven
 versions_given name before None = Err (bad_value name)

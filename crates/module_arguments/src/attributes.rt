@@ -14,7 +14,7 @@ use star_core::{Heap, NamedVal};
 use std::alloc::Global;
 
 /// The attributes of a call: its named arguments that are of no parameter.
-pub fn attributes(
+pub fn read_attributes(
     alloc: Global,
     heap: &Heap,
     parameters: &[Parameter],

@@ -5,7 +5,7 @@ ghost use Rattle.module_arguments.specs.Directives as spec;
 use crate::parameters::{Kind, NameKind, Parameter, ParameterName, TextKind};
 use star_library::Ways;
 
-/// A directive of a module file; or the call of a proxy's tag class, or of a repository rule.
+/// A directive of a module file.
 #[derive(Clone, Copy, PartialEq, Eq)]
 pub enum Directive {
     ArchiveOverride,
@@ -23,10 +23,6 @@ pub enum Directive {
     UseExtension,
     UseRepo,
     UseRepoRule,
-    /// A tag of an extension.
-    Tag,
-    /// A declared repository.
-    Repository,
 }
 
 /// How many arguments may be given by position, and whether further ones may be given.
@@ -97,8 +93,6 @@ impl Directive {
             Directive::UseExtension => "use_extension",
             Directive::UseRepo => "use_repo",
             Directive::UseRepoRule => "use_repo_rule",
-            Directive::Tag => "tag",
-            Directive::Repository => "repository",
         }
     }
 
@@ -123,8 +117,6 @@ impl Directive {
             Directive::UseExtension => &USE_EXTENSION,
             Directive::UseRepo => &IMPORTED,
             Directive::UseRepoRule => &USE_REPO_RULE,
-            Directive::Tag => &[],
-            Directive::Repository => &REPOSITORY,
         }
     }
 
@@ -149,10 +141,23 @@ impl Directive {
             Directive::UseExtension => Shape::of(2, false, false),
             Directive::UseRepo => Shape::of(1, true, true),
             Directive::UseRepoRule => Shape::of(2, false, false),
-            Directive::Tag => Shape::of(0, false, true),
-            Directive::Repository => Shape::of(0, false, true),
         }
     }
+}
+
+/// The parameters of a call that declares a repository.
+#[tactic(auto, unfolding(crate::specs::Directives::repository_parameters))]
+pub fn repository_parameters() -> &'static [Parameter]
+    ensures { result.now ≡ spec.repository_parameters }
+{
+    &REPOSITORY
+}
+
+/// What a call takes whose arguments are attributes: named ones alone.
+pub fn attribute_shape() -> Shape
+    ensures { result ≡ spec.attribute_shape }
+{
+    Shape::of(0, false, true)
 }
 
 fn directive_among(directives: &[Directive], name: &str) -> Option<Directive>

@@ -1,5 +1,5 @@
 //! What the parameters of a directive are given.
-ghost use Rattle.std.specs.Prelude.{◌≡◌, IfOk, not, bytes_eq};
+ghost use Rattle.std.specs.Prelude.{◌≡◌, [], Ok, not, bytes_eq};
 ghost use Rattle.std.specs.List.{list_any};
 ghost use Rattle.std.specs.Option.{option_copied};
 ghost use Rattle.bz_base.specs.Paths.{joined};

@@ -16,14 +16,16 @@ pub mod arguments;
 pub mod attributes;
 pub mod directives;
 pub mod given_values;
+pub mod name_pairs;
 pub mod objections;
 pub mod objects;
 pub mod parameters;
 
 pub use arguments::{argument_of, binds, further, is_parameter};
-pub use attributes::attributes;
-pub use directives::{Directive, Shape};
+pub use attributes::read_attributes;
+pub use directives::{Directive, Shape, attribute_shape, repository_parameters};
 pub use given_values::{Given, each_given, given_text};
+pub use name_pairs::{NamePair, read_pairs};
 pub use objections::{Objection, object, refuse_arity};
 pub use objects::{Object, object_in};
 pub use parameters::{Kind, NameKind, Parameter, ParameterName, TextKind};

@@ -1,6 +1,6 @@
 use Rattle.std.proofs.Common.{◌≡◌, Ok, drop}
 use Rattle.module_arguments.specs.Attributes.{attributes_after, attributes_in}
-use Rattle.module_arguments.proofs.attributes.attributes.Given as goal
+use Rattle.module_arguments.proofs.attributes.read_attributes.Given as goal
 
 abbrev pub invariant-reading : goal.invariant-reading
 invariant-reading l =
