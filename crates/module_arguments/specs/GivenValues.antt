@@ -65,40 +65,40 @@ text_given (Ok value) = Ok (given.Text value)
 text_given (Err objection) = Err objection
 
 abbrev pub registry_given : ParameterName → List ℕ → ReadGiven
-registry_given name value =
-    if is_empty value || is_registry value then Ok (given.Text value) else Err (left_out name)
+registry_given called value =
+    if is_empty value || is_registry value then Ok (given.Text value) else Err (left_out called)
 
 -- a path is kept as it is written
 abbrev pub path_given : ParameterName → Result (List ℕ) BadPath → List ℕ → ReadGiven
-path_given name (Ok path) value = Ok (given.Text value)
-path_given name (Err bad) value = Err (bad_value name)
+path_given called (Ok path) value = Ok (given.Text value)
+path_given called (Err bad) value = Err (bad_value called)
 
 -- a text of this kind
 unfoldable pub text_read : ParameterName → TextKind → List ℕ → ReadGiven
-text_read name text.Any value = Ok (given.Text value)
-text_read name (text.Name names) value = name_given names value
-text_read name text.Version value = text_given (version_kept value)
-text_read name text.Registry value = registry_given name value
-text_read name text.Path value = path_given name (joined [] value) value
+text_read called text.Any value = Ok (given.Text value)
+text_read called (text.Name names) value = name_given names value
+text_read called text.Version value = text_given (version_kept value)
+text_read called text.Registry value = registry_given called value
+text_read called text.Path value = path_given called (joined [] value) value
 
 -- a string
 abbrev pub string_given : ParameterName → TextKind → Option (List ℕ) → ReadGiven
-string_given name kind None = Err (bad_value name)
-string_given name kind (Some value) = text_read name kind value
+string_given called kind None = Err (bad_value called)
+string_given called kind (Some value) = text_read called kind value
 
 -- a string, or None
 abbrev pub string_or_none : ParameterName → TextKind → HeapState → Val → ReadGiven
-string_or_none name kind heap val.None = Ok given.Nothing
-string_or_none name kind heap (val.Bool flag) = string_given name kind (text_at heap (val.Bool flag))
-string_or_none name kind heap (val.Int number) =
-    string_given name kind (text_at heap (val.Int number))
-string_or_none name kind heap (val.Cell number) =
-    string_given name kind (text_at heap (val.Cell number))
+string_or_none called kind heap val.None = Ok given.Nothing
+string_or_none called kind heap (val.Bool flag) = string_given called kind (text_at heap (val.Bool flag))
+string_or_none called kind heap (val.Int number) =
+    string_given called kind (text_at heap (val.Int number))
+string_or_none called kind heap (val.Cell number) =
+    string_given called kind (text_at heap (val.Cell number))
 
 -- a list of strings
 abbrev pub texts_given : ParameterName → Option (List (List ℕ)) → ReadGiven
-texts_given name None = Err (bad_value name)
-texts_given name (Some texts) = Ok (given.Texts texts)
+texts_given called None = Err (bad_value called)
+texts_given called (Some texts) = Ok (given.Texts texts)
 
 -- some versions and one more
 abbrev pub and_version : List (List ℕ) → Result (List ℕ) Objection → Result (List (List ℕ)) Objection
@@ -140,22 +140,22 @@ enough before (Ok versions) =
     else Err (objection code.FewVersions (given_text 0 before))
 
 abbrev pub versions_given : ParameterName → List Given → Option (List (List ℕ)) → ReadGiven
-versions_given name before None = Err (bad_value name)
-versions_given name before (Some texts) = enough before (versions_after (Ok []) texts)
+versions_given called before None = Err (bad_value called)
+versions_given called before (Some texts) = enough before (versions_after (Ok []) texts)
 
 abbrev pub flag_given : ParameterName → Val → ReadGiven
-flag_given name (val.Bool flag) = Ok (given.Flag flag)
-flag_given name val.None = Err (bad_value name)
-flag_given name (val.Int number) = Err (bad_value name)
-flag_given name (val.Cell number) = Err (bad_value name)
+flag_given called (val.Bool flag) = Ok (given.Flag flag)
+flag_given called val.None = Err (bad_value called)
+flag_given called (val.Int number) = Err (bad_value called)
+flag_given called (val.Cell number) = Err (bad_value called)
 
 -- a flag that may only be False
 abbrev pub unset_given : ParameterName → Val → ReadGiven
-unset_given name (val.Bool true) = Err (left_out name)
-unset_given name (val.Bool false) = Ok given.Nothing
-unset_given name val.None = Err (bad_value name)
-unset_given name (val.Int number) = Err (bad_value name)
-unset_given name (val.Cell number) = Err (bad_value name)
+unset_given called (val.Bool true) = Err (left_out called)
+unset_given called (val.Bool false) = Ok given.Nothing
+unset_given called val.None = Err (bad_value called)
+unset_given called (val.Int number) = Err (bad_value called)
+unset_given called (val.Cell number) = Err (bad_value called)
 
 -- a level from 0 to 2147483647
 abbrev pub level_of : ℤ → Option ℕ
@@ -163,14 +163,14 @@ level_of (pos n) = if nat_lt 2147483647 n then None else Some n
 level_of (negsuc n) = None
 
 abbrev pub level_read : ParameterName → Option ℕ → ReadGiven
-level_read name (Some level) = Ok (given.Level level)
-level_read name None = Err (bad_value name)
+level_read called (Some level) = Ok (given.Level level)
+level_read called None = Err (bad_value called)
 
 abbrev pub level_given : ParameterName → Val → ReadGiven
-level_given name (val.Int number) = level_read name (level_of number)
-level_given name val.None = Err (bad_value name)
-level_given name (val.Bool flag) = Err (bad_value name)
-level_given name (val.Cell number) = Err (bad_value name)
+level_given called (val.Int number) = level_read called (level_of number)
+level_given called val.None = Err (bad_value called)
+level_given called (val.Bool flag) = Err (bad_value called)
+level_given called (val.Cell number) = Err (bad_value called)
 
 -- the integer -1, which sets no greatest level
 abbrev pub is_unset : ℤ → Bool
@@ -178,38 +178,38 @@ is_unset (pos n) = false
 is_unset (negsuc n) = n == 0
 
 abbrev pub maximum_given : ParameterName → Val → ReadGiven
-maximum_given name (val.Int number) =
-    if is_unset number then Ok given.Nothing else Err (left_out name)
-maximum_given name val.None = Err (bad_value name)
-maximum_given name (val.Bool flag) = Err (bad_value name)
-maximum_given name (val.Cell number) = Err (bad_value name)
+maximum_given called (val.Int number) =
+    if is_unset number then Ok given.Nothing else Err (left_out called)
+maximum_given called val.None = Err (bad_value called)
+maximum_given called (val.Bool flag) = Err (bad_value called)
+maximum_given called (val.Cell number) = Err (bad_value called)
 
 abbrev pub integer_given : ParameterName → Val → ReadGiven
-integer_given name (val.Int number) = Ok given.Nothing
-integer_given name val.None = Err (bad_value name)
-integer_given name (val.Bool flag) = Err (bad_value name)
-integer_given name (val.Cell number) = Err (bad_value name)
+integer_given called (val.Int number) = Ok given.Nothing
+integer_given called val.None = Err (bad_value called)
+integer_given called (val.Bool flag) = Err (bad_value called)
+integer_given called (val.Cell number) = Err (bad_value called)
 
 -- what `use_extension` gave
 abbrev pub proxy_given : ParameterName → Option Object → ReadGiven
-proxy_given name (Some (object.Proxy usage)) = Ok (given.Proxy usage)
-proxy_given name (Some (object.Named directive)) = Err (bad_value name)
-proxy_given name (Some (object.Rule number)) = Err (bad_value name)
-proxy_given name None = Err (bad_value name)
+proxy_given called (Some (object.Proxy usage)) = Ok (given.Proxy usage)
+proxy_given called (Some (object.Named directive)) = Err (bad_value called)
+proxy_given called (Some (object.Rule number)) = Err (bad_value called)
+proxy_given called None = Err (bad_value called)
 
 -- what a parameter of a kind is given by a value, where others were given before
 unfoldable pub value_given : Kind → ParameterName → List Given → HeapState → Val → ReadGiven
-value_given (kind.Text texts) name before heap value = string_given name texts (text_at heap value)
-value_given (kind.TextOrNone texts) name before heap value = string_or_none name texts heap value
-value_given kind.Texts name before heap value = texts_given name (texts_of heap value)
-value_given kind.Versions name before heap value =
-    versions_given name before (texts_of heap value)
-value_given kind.Flag name before heap value = flag_given name value
-value_given kind.Unset name before heap value = unset_given name value
-value_given kind.Level name before heap value = level_given name value
-value_given kind.NoMaximum name before heap value = maximum_given name value
-value_given kind.Integer name before heap value = integer_given name value
-value_given kind.Proxy name before heap value = proxy_given name (object_in (cell_at heap value))
+value_given (kind.Text texts) called before heap value = string_given called texts (text_at heap value)
+value_given (kind.TextOrNone texts) called before heap value = string_or_none called texts heap value
+value_given kind.Texts called before heap value = texts_given called (texts_of heap value)
+value_given kind.Versions called before heap value =
+    versions_given called before (texts_of heap value)
+value_given kind.Flag called before heap value = flag_given called value
+value_given kind.Unset called before heap value = unset_given called value
+value_given kind.Level called before heap value = level_given called value
+value_given kind.NoMaximum called before heap value = maximum_given called value
+value_given kind.Integer called before heap value = integer_given called value
+value_given kind.Proxy called before heap value = proxy_given called (object_in (cell_at heap value))
 
 -- what a parameter of a kind is given that is left out
 unfoldable pub default_of : Kind → Given

@@ -16,8 +16,8 @@ arity = objection Fault (codes "arity")
 
 -- a parameter has a value of a wrong type, or one that it may not have
 abbrev pub bad_value : ParameterName → Objection
-bad_value name = objection BadValue (name_text name)
+bad_value called = objection BadValue (name_text called)
 
 -- a parameter has a value that this tool leaves out
 abbrev pub left_out : ParameterName → Objection
-left_out name = objection Left (name_text name)
+left_out called = objection Left (name_text called)
