@@ -68,7 +68,7 @@ module "m" ; git_override "m" => !BadValue f:2 module_name
 multiple_version_override "a" [ "1" "1+b" ] 5 => !FewVersions f:1 a
 multiple_version_override "a" "1" => !BadValue f:1 versions
 local_path_override "a" "/../a" => !BadValue f:1 path
-archive_override "a" x= $0 => @ 0  | override a 1 archive
+use_extension "//:e.bzl" "x" ; archive_override "a" x= $0 => !BadValue f:2 x
 git_override "a" "b" => !Fault f:1 arity
 register_toolchains 1 => !BadValue f:1 labels
 register_toolchains dev_dependency= 1 => !BadValue f:1 dev_dependency

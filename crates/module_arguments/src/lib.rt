@@ -26,6 +26,6 @@ pub use attributes::read_attributes;
 pub use directives::{Directive, Shape, attribute_shape, repository_parameters};
 pub use given_values::{Given, each_given, given_text};
 pub use name_pairs::{NamePair, read_pairs};
-pub use objections::{Objection, object, refuse_arity};
+pub use objections::{Objection, object, refuse_arity, refuse_value};
 pub use objects::{Object, object_in};
 pub use parameters::{Kind, NameKind, Parameter, ParameterName, TextKind};

@@ -1,7 +1,7 @@
 //! What a module file says of extensions, as a list that grows in the middle too.
 ghost use Rattle.std.specs.Prelude.{◌≡◌, [], ◌∷◌, ◌++◌, OnOk, length};
 ghost use Rattle.module_directives.specs.Parts as spec;
-ghost use Rattle.module_directives.specs.declared.parts.Addition.TheVariants.{Tag};
+ghost use Rattle.module_directives.specs.declared.parts.Addition.TheVariants as additions;
 ghost use Rattle.module_directives.specs.Parts.{names_added, part_added, part_with, usage_with};
 
 use bz_base::{Import, Part, RepoChange, Tag, Usage};
@@ -35,7 +35,12 @@ impl Model for Parts {
     ghost use Rattle.std.specs.Prelude.{List};
     ghost use Rattle.bz_base.specs.declared.declarations.Part.{Part};
 
+    ghost use Rattle.bz_base.specs.contracts.plain_values.Plain as plains;
+    ghost use Rattle.std.specs.Coded.{codes};
+
     ghost Value = { List Part };
+
+    ghost coded = { Prim.hlevel (codes, plains.the_row.coded) };
 
     ghost view = { λ p. p.parts.items };
 }
@@ -139,7 +144,7 @@ fn add_to_usage(usage: &mut Usage, addition: Addition) -> Mem<()>
 }
 
 fn add_tag(usage: &mut Usage, tag: Tag) -> Mem<()>
-    ensures { OnOk result (usage.new ≡ usage_with (Tag tag) usage.old) }
+    ensures { OnOk result (usage.new ≡ usage_with (additions.Tag tag) usage.old) }
 {
     let Tag {
         class, attrs, line, ..
