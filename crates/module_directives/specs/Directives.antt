@@ -142,7 +142,7 @@ abbrev pub may_run : Directive → Args → Bool
 may_run one args = takes_anything one || binds (shape_of one) (parameters_of one) args
 
 -- what a directive does
-abbrev pub directive_row : Directive → HeapState → Args → ℕ → Reader → Outcome
+unfoldable pub directive_row : Directive → HeapState → Args → ℕ → Reader → Outcome
 directive_row one heap args line reader =
     if may_run one args then bound_row one heap args line reader else Err arity
 

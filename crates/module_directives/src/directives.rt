@@ -26,6 +26,7 @@ use std::alloc::Global;
 
 impl Reader {
     /// Runs a directive that a statement at a line calls.
+    #[tactic(auto, unfolding(crate::specs::Directives::directive_row))]
     pub fn run(
         &mut self,
         alloc: Global,

@@ -137,6 +137,28 @@ impl ModuleHost {
         self.call_tag(alloc, heap, usage, class, args, line)
     }
 
+    /// A tag class as a method of a proxy.
+    fn field_of(
+        &self,
+        alloc: Global,
+        heap: &mut Heap,
+        found: Option<Object>,
+        number: u32,
+        name: &str,
+    ) -> Mem<HostStep>
+        ensures { Replied (field_reply found number name.now heap.old self.now) result self.now
+            self.now heap.old heap.new }
+    {
+        match found {
+            Some(Object::Proxy(_)) if is_identifier(name) => {
+                let method = Txt::of(alloc, name)?;
+                let receiver = Val::Cell(number);
+                give_cell(alloc, &self.file, heap, Cell::Bound { receiver, method }, 0)
+            }
+            _ => Ok(HostStep::NoAttribute),
+        }
+    }
+
     fn call_object(
         &mut self,
         alloc: Global,
@@ -190,34 +212,10 @@ impl Host for ModuleHost {
         _answers: &Answers,
     ) -> Mem<HostStep> {
         let found = object_in(heap.cell(&Val::Cell(object)));
-        field_of(alloc, &self.file, heap, found, object, name)
+        self.field_of(alloc, heap, found, object, name)
     }
 
     ghost lawful = { module_lawful };
-}
-
-/// A tag class as a method of a proxy.
-fn field_of(
-    alloc: Global,
-    file: &Txt,
-    heap: &mut Heap,
-    found: Option<Object>,
-    number: u32,
-    name: &str,
-) -> Mem<HostStep>
-    ensures { (host : ModuleHost)
-        → host.file ≡ file.now
-        → Replied (field_reply found number name.now heap.old host) result host host heap.old
-        heap.new }
-{
-    match found {
-        Some(Object::Proxy(_)) if is_identifier(name) => {
-            let method = Txt::of(alloc, name)?;
-            let receiver = Val::Cell(number);
-            give_cell(alloc, file, heap, Cell::Bound { receiver, method }, 0)
-        }
-        _ => Ok(HostStep::NoAttribute),
-    }
 }
 
 /// Gives what a directive gave.

@@ -1,1 +1,4 @@
+pub mod FitAttributes
+pub mod FitNames
 pub mod FitValues
+pub mod KeptParts
