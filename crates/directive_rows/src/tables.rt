@@ -5,7 +5,7 @@
 /// The root's file: at least a row a directive.
 pub(crate) const DECLARED: &str = r#"module => @ 0 
 module name= "m" version= "1.0+b" compatibility_level= 2147483647 => m@1.0 2147483647 m
-module "m" "1" 2 "r" [ ">=7" ] => m@1 2 r
+module "m" "1" 2 "r" [ "7" ] => m@1 2 r
 bazel_dep "a" "1" => @ 0  | dep a@1 a false 1
 bazel_dep name= "a" version= "1" repo_name= "r" dev_dependency= True => @ 0  | dep a@1 r true 1
 bazel_dep "a" "1" -1 None => @ 0  | nodep a@1  false 1

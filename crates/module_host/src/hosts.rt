@@ -220,9 +220,9 @@ impl Host for ModuleHost {
 
 /// Gives what a directive gave.
 fn give(alloc: Global, file: &Txt, heap: &mut Heap, gift: Gift, line: u64) -> Mem<HostStep>
-    ensures { (host : ModuleHost)
+    ensures { (before host : ModuleHost)
         → host.file ≡ file.now
-        → Replied (cell_reply (gift_cell gift) heap.old line host) result host host heap.old
+        → Replied (cell_reply (gift_cell gift) heap.old line host) result before host heap.old
         heap.new }
 {
     match cell_of(alloc, gift)? {
@@ -233,9 +233,9 @@ fn give(alloc: Global, file: &Txt, heap: &mut Heap, gift: Gift, line: u64) -> Me
 
 /// Gives a new cell.
 fn give_cell(alloc: Global, file: &Txt, heap: &mut Heap, cell: Cell, line: u64) -> Mem<HostStep>
-    ensures { (host : ModuleHost)
+    ensures { (before host : ModuleHost)
         → host.file ≡ file.now
-        → Replied (spec.made_reply (made cell heap.old) line host) result host host heap.old
+        → Replied (spec.made_reply (made cell heap.old) line host) result before host heap.old
         heap.new }
 {
     match heap.make(cell) {
