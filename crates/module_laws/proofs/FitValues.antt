@@ -25,7 +25,10 @@ use Rattle.module_arguments.specs.GivenValues.{each_given, enough, given_after, 
 use Rattle.module_arguments.specs.GivenValues.{is_name, level_of, level_read, path_given}
 use Rattle.module_arguments.specs.GivenValues.{some_differ, string_given, text_given, text_read}
 use Rattle.module_arguments.specs.GivenValues.{value_given, version_kept, version_read}
-use Rattle.module_arguments.specs.GivenValues.{versions_after, versions_given}
+use Rattle.module_arguments.specs.GivenValues.{flag_given, integer_given, maximum_given, proxy_given}
+use Rattle.module_arguments.specs.GivenValues.{texts_given, unset_given, versions_after}
+use Rattle.module_arguments.specs.GivenValues.{versions_given}
+use Rattle.module_arguments.specs.Objects.{object_in}
 use Rattle.module_arguments.specs.declared.given_values.Given.{Given}
 use Rattle.module_arguments.specs.declared.given_values.Given.TheVariants as given
 use Rattle.module_arguments.specs.declared.objections.Objection.{Objection}
@@ -38,7 +41,7 @@ use Rattle.module_arguments.specs.declared.parameters.TextKind.TheVariants as te
 use Rattle.module_laws.specs.Fits.{AllFit, AreVersions, Fits, FitsText, IsLevel, IsText}
 use Rattle.module_laws.specs.Fits.{IsTextOrNone, IsVersions}
 use Rattle.module_values.specs.TextLists.{text_at, texts_of}
-use Rattle.star_core.specs.Heaps.{HeapState}
+use Rattle.star_core.specs.Heaps.{HeapState, cell_at}
 use Rattle.star_core.specs.declared.values.Args.{Args}
 use Rattle.star_core.specs.declared.values.Val.{Val}
 use Rattle.star_core.specs.declared.values.Val.TheVariants as val
@@ -60,7 +63,7 @@ version_text : (r : Result (List ℕ) Objection)
 version_text (Ok value) h = h
 version_text (Err reason) h = tt
 
-empty_text : (value : List ℕ) → is_empty value ≡ true → value ≡ []
+pub empty_text : (value : List ℕ) → is_empty value ≡ true → value ≡ []
 empty_text [] is = refl
 empty_text (b ∷ rest) is = absurd (cc (sym (eqb-suc-zero (length rest)) ∙ is))
 
@@ -76,7 +79,7 @@ registry_or_none value good = by (or_cases (is_empty value) (is_registry value) 
 path_fits : (called : ParameterName) (value : List ℕ) (r : Result (List ℕ) BadPath)
     → joined [] value ≡ r
     → IfOk (path_given called r value) (IsText text.Path)
-path_fits called value (Ok path) is = subst IsOk (sym is) tt
+path_fits called value (Ok path) is = subst IsOk (sym is) refl
 path_fits called value (Err bad) is = tt
 
 text_fits : (called : ParameterName) (texts : TextKind) (value : List ℕ)
@@ -186,22 +189,25 @@ value_fits (kind.Text texts) called before heap value =
     string_fits called texts (text_at heap value)
 value_fits (kind.TextOrNone texts) called before heap val.None = tt
 value_fits (kind.TextOrNone texts) called before heap (val.Bool flag) =
-    or_none texts _ (string_fits called texts (text_at heap (val.Bool flag)))
+    or_none texts (string_given called texts (text_at heap (val.Bool flag)))
+    (string_fits called texts (text_at heap (val.Bool flag)))
 value_fits (kind.TextOrNone texts) called before heap (val.Int number) =
-    or_none texts _ (string_fits called texts (text_at heap (val.Int number)))
+    or_none texts (string_given called texts (text_at heap (val.Int number)))
+    (string_fits called texts (text_at heap (val.Int number)))
 value_fits (kind.TextOrNone texts) called before heap (val.Cell number) =
-    or_none texts _ (string_fits called texts (text_at heap (val.Cell number)))
+    or_none texts (string_given called texts (text_at heap (val.Cell number)))
+    (string_fits called texts (text_at heap (val.Cell number)))
 value_fits kind.Versions called before heap value = list_fits called before (texts_of heap value)
 value_fits kind.Level called before heap val.None = tt
 value_fits kind.Level called before heap (val.Bool flag) = tt
 value_fits kind.Level called before heap (val.Int number) = level_fits called number
 value_fits kind.Level called before heap (val.Cell number) = tt
-value_fits kind.Texts called before heap value = anything _
-value_fits kind.Flag called before heap value = anything _
-value_fits kind.Unset called before heap value = anything _
-value_fits kind.NoMaximum called before heap value = anything _
-value_fits kind.Integer called before heap value = anything _
-value_fits kind.Proxy called before heap value = anything _
+value_fits kind.Texts called before heap value = anything (texts_given called (texts_of heap value))
+value_fits kind.Flag called before heap value = anything (flag_given called value)
+value_fits kind.Unset called before heap value = anything (unset_given called value)
+value_fits kind.NoMaximum called before heap value = anything (maximum_given called value)
+value_fits kind.Integer called before heap value = anything (integer_given called value)
+value_fits kind.Proxy called before heap value = anything (proxy_given called (object_in (cell_at heap value)))
 
 -- ---- all parameters
 

@@ -10,7 +10,7 @@ use Rattle.std.proofs.lemmas.List.Elements.{All-append, All-cons, All-nil}
 use Rattle.std.proofs.lemmas.List.Folds.{list_any_at}
 use Rattle.std.proofs.lemmas.List.Kept.{AllPairs-cons}
 use Rattle.std.proofs.lemmas.List.Quantifiers.{all_pairs_push}
-use Rattle.std.specs.Char.{is_ascii_alphabetic, is_ascii_lowercase}
+use Rattle.std.specs.Char.{is_ascii_alphabetic, is_ascii_digit, is_ascii_lowercase}
 use Rattle.std.specs.Prelude.{All, AllPairs, IsOk, slice_get, ⊤}
 use Rattle.std.specs.List.{list_all, list_any}
 use Rattle.bz_base.proofs.PlainLaws.{depth-Text, good-Text}
@@ -18,7 +18,7 @@ use Rattle.bz_base.specs.ModuleDeclarations.{AreAttrs, IsDep, IsNodep, IsOverrid
 use Rattle.bz_base.specs.ModuleDeclarations.{IsPart, IsRegistryOrNone, IsRootDeclared, IsUsage}
 use Rattle.bz_base.specs.ModuleDeclarations.{IsVersionText}
 use Rattle.bz_base.specs.Names.{ends, is_apparent_byte, is_identifier, is_module_byte, is_module_name}
-use Rattle.bz_base.specs.Names.{is_repository_name}
+use Rattle.bz_base.specs.Names.{is_joint, is_repository_name}
 use Rattle.bz_base.specs.declared.declarations.Dep.{Dep}
 use Rattle.bz_base.specs.declared.declarations.Override.{Override}
 use Rattle.bz_base.specs.declared.declarations.OverrideKind.{OverrideKind}
@@ -57,6 +57,7 @@ use Rattle.module_directives.specs.declared.readers.RepoRule.{RepoRule}
 use Rattle.module_directives.specs.declared.readers.Role.{Role}
 use Rattle.module_laws.proofs.FitAttributes.{AttrsFit, IsGoodAttr}
 use Rattle.module_laws.proofs.FitNames.{IsPair}
+use Rattle.module_laws.proofs.FitValues.{empty_text}
 use Rattle.module_laws.proofs.KeptParts.{names_added_keep, part_added_keeps}
 use Rattle.module_laws.specs.Fits.{AllFit, AreVersions, Fits, FitsText, IsTextOrNone}
 use Rattle.module_laws.specs.Kept.{IsKept, KeptBy}
@@ -136,11 +137,13 @@ lower_letter b h = or_right _ _ h
 apparent : (b : ℕ) → is_module_byte b ≡ true → is_apparent_byte b ≡ true
 apparent b h = by (or_cases _ _ h)
   where
-    letter_or_digit : _ → is_apparent_byte b ≡ true
+    letter_or_digit : (is_ascii_lowercase b ≡ true) ⊎ (is_ascii_digit b ≡ true)
+        → is_apparent_byte b ≡ true
     letter_or_digit (inl letter) = or_left _ _ (or_right _ _ letter)
     letter_or_digit (inr digit) = or_left _ _ (or_left _ _ (or_left _ _ digit))
 
-    by : _ → is_apparent_byte b ≡ true
+    by : ((is_ascii_lowercase b || is_ascii_digit b) ≡ true) ⊎ (is_joint b ≡ true)
+        → is_apparent_byte b ≡ true
     by (inl front) = letter_or_digit (or_cases _ _ front)
     by (inr joint) = or_right _ _ joint
 
@@ -163,10 +166,6 @@ module_is_repository (b ∷ bytes) h =
     let parts : (is_ascii_lowercase b ≡ true) × (list_all is_module_byte (b ∷ bytes) ≡ true) =
     and_parts _ _ front in
     and_from _ _ (lower_letter b parts.0) (all_apparent (b ∷ bytes) parts.1)
-
-empty_text : (value : List ℕ) → is_empty value ≡ true → value ≡ []
-empty_text [] is = refl
-empty_text (b ∷ rest) is = absurd (cc is)
 
 module_name : (value : List ℕ) → is_name names.Module value ≡ true → is_module_name value ≡ true
 unfolding is_name
@@ -329,14 +328,23 @@ overrides_keep reader overrides kept all once =
     record {
       declared =
           record {
-            declared = kept.declared.declared;
+            declared =
+                record {
+                  named = kept.declared.declared.named;
+                  version_stands = kept.declared.declared.version_stands;
+                  level_stands = kept.declared.declared.level_stands;
+                  repo_named = kept.declared.declared.repo_named;
+                  deps = kept.declared.declared.deps;
+                  nodeps = kept.declared.declared.nodeps;
+                  parts = kept.declared.declared.parts;
+                };
             overrides = all;
             override_once = once;
           };
       nothing_overridden = λ e. absurd (cc e);
     }
 
-empty_version : IsVersionText []
+pub empty_version : IsVersionText []
 unfolding version_of
 empty_version = refl
 
@@ -377,14 +385,14 @@ module_keeps values reader fit late kept =
                 record {
                   named =
                       own_name (given_text 0 values)
-                      (text_there (text.Name names.Own) (slice_get values 0) (fits_at 0 _ values fit));
+                      (text_there (text.Name names.Own) (slice_get values 0) (fits_at 0 (parameters_of directive.Module) values fit));
                   version_stands =
-                      text_there text.Version (slice_get values 1) (fits_at 1 _ values fit);
-                  level_stands = level_there (slice_get values 2) (fits_at 2 _ values fit);
+                      text_there text.Version (slice_get values 1) (fits_at 1 (parameters_of directive.Module) values fit);
+                  level_stands = level_there (slice_get values 2) (fits_at 2 (parameters_of directive.Module) values fit);
                   repo_named =
                       repo_named (given_text 0 values) (given_text 3 values)
                       (text_there (text.Name names.Repository) (slice_get values 3)
-                      (fits_at 3 _ values fit));
+                      (fits_at 3 (parameters_of directive.Module) values fit));
                   deps = kept.declared.declared.deps;
                   nodeps = kept.declared.declared.nodeps;
                   parts = kept.declared.declared.parts;
@@ -405,9 +413,9 @@ unfolding dep_declared parameters_of
 dep_keeps values line reader fit kept =
     let called : is_module_name (given_text 0 values) ≡ true =
     module_name (given_text 0 values)
-    (text_there (text.Name names.Module) (slice_get values 0) (fits_at 0 _ values fit)) in
+    (text_there (text.Name names.Module) (slice_get values 0) (fits_at 0 (parameters_of directive.BazelDep) values fit)) in
     let version : IsVersionText (given_text 1 values) =
-    text_there text.Version (slice_get values 1) (fits_at 1 _ values fit) in
+    text_there text.Version (slice_get values 1) (fits_at 1 (parameters_of directive.BazelDep) values fit) in
     cond_both (counts reader.role (given_flag 4 values)) _ _ IsKept
     (λ _. cond_both (is_nothing (slice_get values 3)) _ _ IsKept
     (λ _. nodeps_keep reader (reader.nodeps ++ nodep_of values line ∷ []) kept
@@ -423,7 +431,7 @@ dep_keeps values line reader fit kept =
       apparent_stands =
           apparent_good (given_text 0 values) (given_text 3 values) called
           (some_text_there (text.Name names.Repository) (slice_get values 3)
-          (fits_at 3 _ values fit) some);
+          (fits_at 3 (parameters_of directive.BazelDep) values fit) some);
     })))))
     (λ _. begun_keeps reader kept)
 
@@ -438,7 +446,7 @@ usage_keeps values line reader fit kept =
     (record {
       exported =
           exported (given_text 1 values)
-          (text_there (text.Name names.Exported) (slice_get values 1) (fits_at 1 _ values fit));
+          (text_there (text.Name names.Exported) (slice_get values 1) (fits_at 1 (parameters_of directive.UseExtension) values fit));
       tags = All-nil _;
       imports = All-nil _;
       changes = All-nil _;
@@ -560,10 +568,10 @@ override_keeps name one line reader named good kept =
     kept.declared.override_once (not_overridden name reader.overrides none)))))
 
 -- the module that an override names first
-pub first_name : (parameters : List Parameter) (values : List Given)
+first_name : (values : List Given)
     → FitsGiven (kind.Text (text.Name names.Module)) (slice_get values 0)
     → is_module_name (given_text 0 values) ≡ true
-first_name parameters values fit =
+first_name values fit =
     module_name (given_text 0 values)
     (text_there (text.Name names.Module) (slice_get values 0) fit)
 
@@ -574,9 +582,9 @@ pub single_keeps : (values : List Given) (line : ℕ) (reader : Reader)
 unfolding parameters_of
 single_keeps values line reader fit kept =
     override_keeps (given_text 0 values) (single_kind values) line reader
-    (first_name [] values (fits_at 0 _ values fit))
-    (text_there text.Version (slice_get values 1) (fits_at 1 _ values fit),
-    text_there text.Registry (slice_get values 2) (fits_at 2 _ values fit)) kept
+    (first_name values (fits_at 0 (parameters_of directive.SingleVersionOverride) values fit))
+    (text_there text.Version (slice_get values 1) (fits_at 1 (parameters_of directive.SingleVersionOverride) values fit),
+    text_there text.Registry (slice_get values 2) (fits_at 2 (parameters_of directive.SingleVersionOverride) values fit)) kept
 
 pub multiple_keeps : (values : List Given) (line : ℕ) (reader : Reader)
     → AllFit (parameters_of directive.MultipleVersionOverride) values
@@ -585,11 +593,11 @@ pub multiple_keeps : (values : List Given) (line : ℕ) (reader : Reader)
 unfolding parameters_of
 multiple_keeps values line reader fit kept =
     let versions : AreVersions (given_texts 1 values) =
-    versions_there (slice_get values 1) (fits_at 1 _ values fit) in
+    versions_there (slice_get values 1) (fits_at 1 (parameters_of directive.MultipleVersionOverride) values fit) in
     override_keeps (given_text 0 values) (multiple_kind values) line reader
-    (first_name [] values (fits_at 0 _ values fit))
+    (first_name values (fits_at 0 (parameters_of directive.MultipleVersionOverride) values fit))
     (versions.0, versions.1,
-    text_there text.Registry (slice_get values 2) (fits_at 2 _ values fit)) kept
+    text_there text.Registry (slice_get values 2) (fits_at 2 (parameters_of directive.MultipleVersionOverride) values fit)) kept
 
 pub local_keeps : (values : List Given) (line : ℕ) (reader : Reader)
     → AllFit (parameters_of directive.LocalPathOverride) values
@@ -598,5 +606,17 @@ pub local_keeps : (values : List Given) (line : ℕ) (reader : Reader)
 unfolding parameters_of
 local_keeps values line reader fit kept =
     override_keeps (given_text 0 values) (local_kind values) line reader
-    (first_name [] values (fits_at 0 _ values fit))
-    (text_there text.Path (slice_get values 1) (fits_at 1 _ values fit)) kept
+    (first_name values (fits_at 0 (parameters_of directive.LocalPathOverride) values fit))
+    (text_there text.Path (slice_get values 1) (fits_at 1 (parameters_of directive.LocalPathOverride) values fit)) kept
+
+pub archive_name : (values : List Given)
+    → AllFit (parameters_of directive.ArchiveOverride) values
+    → is_module_name (given_text 0 values) ≡ true
+unfolding parameters_of
+archive_name values fit = first_name values (fits_at 0 (parameters_of directive.ArchiveOverride) values fit)
+
+pub git_name : (values : List Given)
+    → AllFit (parameters_of directive.GitOverride) values
+    → is_module_name (given_text 0 values) ≡ true
+unfolding parameters_of
+git_name values fit = first_name values (fits_at 0 (parameters_of directive.GitOverride) values fit)
