@@ -119,7 +119,15 @@ impl Reading {
             return Ok(HostStep::NoAttribute);
         };
         let answers = Answers::new(alloc);
-        self.host.call(alloc, &mut self.heap, number, method, args, self.line, &answers)
+        self.host.call(
+            alloc,
+            &mut self.heap,
+            number,
+            method,
+            args,
+            self.line,
+            &answers,
+        )
     }
 
     /// Makes all calls of a row; what ends it before they are all made.

@@ -48,7 +48,9 @@ fn none_left(shape: Shape, parameters: &[Parameter], args: &Args) -> bool
 fn all_known(parameters: &[Parameter], named: &[NamedVal]) -> bool
     ensures { result ≡ list_all (λ one. spec.is_parameter parameters.now one.name) named.now }
 {
-    named.iter().all(|one| is_parameter(parameters, one.name.as_str()))
+    named
+        .iter()
+        .all(|one| is_parameter(parameters, one.name.as_str()))
 }
 
 /// Whether a name is that of one of the parameters.
@@ -71,7 +73,11 @@ fn each_fits(parameters: &[Parameter], args: &Args) -> bool
     let mut index = 0;
     'fitting: for parameter in parameters {
         let place = by_place(index, parameter, args.positional.items());
-        if !fits(parameter.needed, place, by_name(parameter, args.named.items())) {
+        if !fits(
+            parameter.needed,
+            place,
+            by_name(parameter, args.named.items()),
+        ) {
             return false;
         }
         index += 1;

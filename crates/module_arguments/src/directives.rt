@@ -354,32 +354,26 @@ const LOCAL_PATH_OVERRIDE: [Parameter; 2] = [
     },
 ];
 
-const OVERRIDDEN: [Parameter; 1] = [
-    Parameter {
-        name: ParameterName::ModuleName,
-        needed: true,
-        ways: Ways::Either,
-        kind: Kind::Text(TextKind::Name(NameKind::Module)),
-    },
-];
+const OVERRIDDEN: [Parameter; 1] = [Parameter {
+    name: ParameterName::ModuleName,
+    needed: true,
+    ways: Ways::Either,
+    kind: Kind::Text(TextKind::Name(NameKind::Module)),
+}];
 
-const REGISTERED: [Parameter; 1] = [
-    Parameter {
-        name: ParameterName::DevDependency,
-        needed: false,
-        ways: Ways::Name,
-        kind: Kind::Flag,
-    },
-];
+const REGISTERED: [Parameter; 1] = [Parameter {
+    name: ParameterName::DevDependency,
+    needed: false,
+    ways: Ways::Name,
+    kind: Kind::Flag,
+}];
 
-const IMPORTED: [Parameter; 1] = [
-    Parameter {
-        name: ParameterName::Proxy,
-        needed: true,
-        ways: Ways::Position,
-        kind: Kind::Proxy,
-    },
-];
+const IMPORTED: [Parameter; 1] = [Parameter {
+    name: ParameterName::Proxy,
+    needed: true,
+    ways: Ways::Position,
+    kind: Kind::Proxy,
+}];
 
 const REPOSITORY: [Parameter; 2] = [
     Parameter {

@@ -372,11 +372,7 @@ fn integer_given(alloc: Global, name: ParameterName, value: Val) -> May<Given, O
     }
 }
 
-fn proxy_given(
-    alloc: Global,
-    name: ParameterName,
-    object: Option<Object>,
-) -> May<Given, Objection>
+fn proxy_given(alloc: Global, name: ParameterName, object: Option<Object>) -> May<Given, Objection>
     ensures { Gives (spec.proxy_given name object) result }
 {
     match object {

@@ -39,7 +39,7 @@ abbrev pub module_row : HeapState → Args → Reader → Outcome
 module_row heap args reader =
     if reader.begun then Err module_late
     else and_then (values_of directive.Module heap args)
-        (λ values. done (module_declared values reader))
+    (λ values. done (module_declared values reader))
 
 abbrev pub dep_row : HeapState → Args → ℕ → Reader → Outcome
 dep_row heap args line reader =
@@ -151,7 +151,7 @@ unfoldable pub tag_row : Option ℕ → List ℕ → HeapState → Args → ℕ 
 tag_row usage class heap args line reader =
     if binds attribute_shape [] args
     then and_then (attributes_in heap [] args.named)
-        (λ attrs. done (tag_declared usage class attrs line reader))
+    (λ attrs. done (tag_declared usage class attrs line reader))
     else Err arity
 
 -- what a call of a rule does whose arguments bind

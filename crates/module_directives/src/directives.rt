@@ -61,7 +61,14 @@ impl Reader {
             Directive::BazelDep => self.run_dep(alloc, heap, args, line),
             Directive::UseExtension => self.run_extension(alloc, heap, args, line),
             Directive::UseRepoRule => self.run_rule(alloc, heap, args),
-            Directive::UseRepo => self.run_names(alloc, directive, Purpose::Import, heap, args, line),
+            Directive::UseRepo => self.run_names(
+                alloc,
+                directive,
+                Purpose::Import,
+                heap,
+                args,
+                line,
+            ),
             Directive::OverrideRepo => {
                 self.run_names(alloc, directive, Purpose::Change(false), heap, args, line)
             }
@@ -223,7 +230,12 @@ impl Reader {
             (readers.local_kind values.now) line self.old) result self.new }
     {
         let path = Txt::of(alloc, given_text(1, values))?;
-        self.declare_override(alloc, given_text(0, values), OverrideKind::Local { path }, line)
+        self.declare_override(
+            alloc,
+            given_text(0, values),
+            OverrideKind::Local { path },
+            line,
+        )
     }
 
     fn run_source(
@@ -335,7 +347,12 @@ impl Reader {
             (λ pairs. done (readers.names_declared purpose usage line pairs self.old)))
             result self.new }
     {
-        match read_pairs(alloc, heap, further(directive.shape(), args), args.named.items()) {
+        match read_pairs(
+            alloc,
+            heap,
+            further(directive.shape(), args),
+            args.named.items(),
+        ) {
             Ok(pairs) => self.add_pairs(purpose, usage, line, pairs),
             Err(miss) => Err(miss),
         }

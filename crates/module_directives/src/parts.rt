@@ -34,7 +34,6 @@ pub struct Parts {
 impl Model for Parts {
     ghost use Rattle.std.specs.Prelude.{List};
     ghost use Rattle.bz_base.specs.declared.declarations.Part.{Part};
-
     ghost use Rattle.bz_base.specs.contracts.plain_values.Plain as plains;
     ghost use Rattle.std.specs.Coded.{codes};
 
@@ -147,7 +146,10 @@ fn add_tag(usage: &mut Usage, tag: Tag) -> Mem<()>
     ensures { OnOk result (usage.new ≡ usage_with (additions.Tag tag) usage.old) }
 {
     let Tag {
-        class, attrs, line, ..
+        class,
+        attrs,
+        line,
+        ..
     } = tag;
     let dev = usage.dev;
     push(

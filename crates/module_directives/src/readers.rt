@@ -14,7 +14,9 @@ use bz_base::{
     Code, Declared, Dep, ModuleDecl, Named, Override, OverrideKind, Part, Plain, Tag, Usage,
 };
 use bz_text::{May, Mem, Seq, Txt};
-use module_arguments::{Given, NamePair, Objection, ParameterName, given_text, object, refuse_value};
+use module_arguments::{
+    Given, NamePair, Objection, ParameterName, given_text, object, refuse_value,
+};
 use std::alloc::Global;
 
 /// Whose file is read: that of the root, where dev dependencies may be ignored, or another.

@@ -582,9 +582,10 @@ pub single_keeps : (values : List Given) (line : ℕ) (reader : Reader)
 unfolding parameters_of
 single_keeps values line reader fit kept =
     override_keeps (given_text 0 values) (single_kind values) line reader
-    (first_name values (fits_at 0 (parameters_of directive.SingleVersionOverride) values fit))
-    (text_there text.Version (slice_get values 1) (fits_at 1 (parameters_of directive.SingleVersionOverride) values fit),
-    text_there text.Registry (slice_get values 2) (fits_at 2 (parameters_of directive.SingleVersionOverride) values fit)) kept
+    (first_name values (fits_at 0 (parameters_of directive.SingleVersionOverride) values fit)) (
+      text_there text.Version (slice_get values 1) (fits_at 1 (parameters_of directive.SingleVersionOverride) values fit),
+      text_there text.Registry (slice_get values 2) (fits_at 2 (parameters_of directive.SingleVersionOverride) values fit),
+    ) kept
 
 pub multiple_keeps : (values : List Given) (line : ℕ) (reader : Reader)
     → AllFit (parameters_of directive.MultipleVersionOverride) values
@@ -595,9 +596,11 @@ multiple_keeps values line reader fit kept =
     let versions : AreVersions (given_texts 1 values) =
     versions_there (slice_get values 1) (fits_at 1 (parameters_of directive.MultipleVersionOverride) values fit) in
     override_keeps (given_text 0 values) (multiple_kind values) line reader
-    (first_name values (fits_at 0 (parameters_of directive.MultipleVersionOverride) values fit))
-    (versions.0, versions.1,
-    text_there text.Registry (slice_get values 2) (fits_at 2 (parameters_of directive.MultipleVersionOverride) values fit)) kept
+    (first_name values (fits_at 0 (parameters_of directive.MultipleVersionOverride) values fit)) (
+      versions.0,
+      versions.1,
+      text_there text.Registry (slice_get values 2) (fits_at 2 (parameters_of directive.MultipleVersionOverride) values fit),
+    ) kept
 
 pub local_keeps : (values : List Given) (line : ℕ) (reader : Reader)
     → AllFit (parameters_of directive.LocalPathOverride) values

@@ -83,9 +83,10 @@ usage_defaults = (λ e. absurd (cc e), (λ e. absurd (cc e), (λ _. tt, (λ _. t
 
 single_defaults : DefaultsFit (parameters_of directive.SingleVersionOverride)
 unfolding parameters_of default_of
-single_defaults =
-    (λ e. absurd (cc e),
-    (λ _. empty_version, (λ _. inl refl, (λ _. tt, (λ _. tt, (λ _. tt, tt))))))
+single_defaults = (
+  λ e. absurd (cc e),
+  (λ _. empty_version, (λ _. inl refl, (λ _. tt, (λ _. tt, (λ _. tt, tt))))),
+)
 
 multiple_defaults : DefaultsFit (parameters_of directive.MultipleVersionOverride)
 unfolding parameters_of default_of
@@ -127,7 +128,7 @@ module_row_keeps : (heap : HeapState) (args : Args) (reader : Reader) (late : Bo
     → IsKept reader
     → KeptBy (if late then Err module_late
     else and_then (values_of directive.Module heap args)
-        (λ values. done (module_declared values reader)))
+    (λ values. done (module_declared values reader)))
 module_row_keeps heap args reader true is bound kept = tt
 module_row_keeps heap args reader false is bound kept =
     values_keep directive.Module heap args (λ values. done (module_declared values reader)) bound

@@ -55,7 +55,7 @@ cell_plain items pairs None = Err not_plain
 cell_plain items pairs (Some (cell.Text text)) = Ok (plain.Text text)
 cell_plain items pairs (Some (cell.List inside)) = items_plain (items inside)
 cell_plain items pairs (Some (cell.Tuple inside)) = items_plain (items inside)
-cell_plain items pairs (Some (cell.Dict inside)) = 
+cell_plain items pairs (Some (cell.Dict inside)) =
     pairs_plain (pairs (map (λ entry. entry.pair) inside))
 cell_plain items pairs (Some (cell.Range first stop step)) = Err not_plain
 cell_plain items pairs (Some (cell.Function function)) = Err not_plain

@@ -47,12 +47,7 @@ fn layer_within(alloc: Global, heap: &Heap, value: &Val, depth: u32) -> May<Plai
 
 #[cycle(reading)]
 #[tactic(auto, unfolding(crate::specs::PlainValues::cell_plain))]
-fn cell_within(
-    alloc: Global,
-    heap: &Heap,
-    cell: Option<&Cell>,
-    depth: u32,
-) -> May<Plain, NotPlain>
+fn cell_within(alloc: Global, heap: &Heap, cell: Option<&Cell>, depth: u32) -> May<Plain, NotPlain>
     ensures { Gives (spec.cell_plain (items_within depth heap.now) (pairs_within depth heap.now)
         (option_copied cell.entry)) result }
 {
@@ -66,12 +61,7 @@ fn cell_within(
 }
 
 #[cycle(reading)]
-fn each_item(
-    alloc: Global,
-    heap: &Heap,
-    items: &[Val],
-    depth: u32,
-) -> May<Items<Plain>, NotPlain>
+fn each_item(alloc: Global, heap: &Heap, items: &[Val], depth: u32) -> May<Items<Plain>, NotPlain>
     ensures { Gives (items_within depth heap.now items.now) result }
 {
     if depth == 0 {
