@@ -162,7 +162,8 @@ shape positional more_positional more_named =
       more_named = more_named;
     }
 
--- how many arguments a directive takes by position, and whether further ones by position and by name
+-- how many arguments a directive takes by position, and whether further ones by position and by
+-- name
 unfoldable pub shape_of : Directive → Shape
 shape_of directive.ArchiveOverride = shape 1 false true
 shape_of directive.BazelDep = shape 5 false false

@@ -1,7 +1,8 @@
--- The objects of a module file: its directives, what `use_extension` gives, and what `use_repo_rule`
--- gives. Each is a cell of the heap whose kind says what it is; a number says which usage or which
--- rule it stands for, and an extension's usage that doesn't count has none.
-use Rattle.std.specs.Prelude.{ℕ, ℤ, pos, negsuc, List, [], ◌∷◌, Option, Some, None, option_map, codes}
+-- The objects of a module file: its directives, what `use_extension` gives, and what
+-- `use_repo_rule` gives. Each is a cell of the heap whose kind says what it is; a number says which
+-- usage or which rule it stands for, and an extension's usage that doesn't count has none.
+use Rattle.std.specs.Prelude.{ℕ, ℤ, pos, negsuc, List, [], ◌∷◌, Option, Some, None, option_map}
+use Rattle.std.specs.Prelude.{codes}
 use Rattle.std.specs.Prelude.{bytes_eq, if◌then◌else◌}
 use Rattle.star_core.specs.declared.cells.Cell.{Cell}
 use Rattle.star_core.specs.declared.cells.Cell.TheVariants as cell

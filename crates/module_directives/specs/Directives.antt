@@ -1,4 +1,5 @@
--- The directives: a table of what each of them does, a row a directive. Bazel, "MODULE.bazel files".
+-- The directives: a table of what each of them does, a row a directive. Bazel, "MODULE.bazel
+-- files".
 use Rattle.std.specs.Prelude.{ℕ, Bool, true, false, List, [], Option, Some, None, Ok, Err, codes}
 use Rattle.std.specs.Prelude.{slice_get, Result, ◌||◌, if◌then◌else◌}
 use Rattle.bz_base.specs.declared.declarations.OverrideKind.{OverrideKind}

@@ -25,8 +25,8 @@ and_then (Err objection) next = Err objection
 abbrev pub done : Reader → Outcome
 done reader = Ok (gift.Nothing, reader)
 
--- The call gave the outcome's gift and left its reader, or it was refused for the outcome's reason, or
--- memory ran out. Nothing is said of the reader behind a refused call, at which a file ends.
+-- The call gave the outcome's gift and left its reader, or it was refused for the outcome's reason,
+-- or memory ran out. Nothing is said of the reader behind a refused call, at which a file ends.
 abbrev pub Ran : Outcome → Result Gift (Miss Objection) → Reader → Type 0
 Ran outcome (Ok gift) new = outcome ≡ Ok (gift, new)
 Ran outcome (Err (miss.Because reason)) new = outcome ≡ Err reason

@@ -1,4 +1,5 @@
--- What a module file says of extensions, part by part: Bazel, "MODULE.bazel files", `use_extension`.
+-- What a module file says of extensions, part by part: Bazel, "MODULE.bazel files",
+-- `use_extension`.
 use Rattle.std.specs.Prelude.{ℕ, List, [], ◌∷◌, ◌++◌, slice_get, slice_set, Option, Some, None}
 use Rattle.bz_base.specs.declared.declarations.Declared.{Declared}
 use Rattle.bz_base.specs.declared.declarations.Import.{Import}
@@ -13,7 +14,8 @@ use Rattle.module_directives.specs.declared.parts.Addition.TheVariants as additi
 use Rattle.module_directives.specs.declared.parts.Purpose.{Purpose}
 use Rattle.module_directives.specs.declared.parts.Purpose.TheVariants as purpose
 
--- a usage with a tag, an import or a repository change behind the others; its tags are dev where it is
+-- a usage with a tag, an import or a repository change behind the others; its tags are dev where it
+-- is
 abbrev pub usage_with : Addition → Usage → Usage
 usage_with (addition.Tag tag) usage =
     record usage { tags = usage.tags ++ record tag { dev = usage.dev } ∷ [] }

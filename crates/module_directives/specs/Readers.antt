@@ -1,6 +1,6 @@
 -- A reader of a module file: what was declared so far, and what each directive makes of it. Bazel,
--- "MODULE.bazel files". Dev parts and changes of repositories count in the root alone, and there only
--- where dev dependencies aren't ignored; overrides count in the root.
+-- "MODULE.bazel files". Dev parts and changes of repositories count in the root alone, and there
+-- only where dev dependencies aren't ignored; overrides count in the root.
 use Rattle.std.specs.Prelude.{ℕ, ◌==◌, Bool, true, false, not, ◌||◌, List, [], ◌∷◌, ◌++◌, length}
 use Rattle.std.specs.Prelude.{slice_get, Option, Some, None, Ok, Err, bytes_eq, codes}
 use Rattle.std.specs.Prelude.{if◌then◌else◌}

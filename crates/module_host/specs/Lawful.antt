@@ -8,7 +8,8 @@ use Rattle.bz_base.specs.Names.{is_identifier}
 use Rattle.module_arguments.specs.declared.objects.Object.{Object}
 use Rattle.module_arguments.specs.declared.objects.Object.TheVariants as object
 use Rattle.module_directives.specs.Outcomes.{Outcome}
-use Rattle.module_host.specs.Meaning.{cell_reply, field_reply, gift_cell, made_reply, module_meaning}
+use Rattle.module_host.specs.Meaning.{cell_reply, field_reply, gift_cell, made_reply}
+use Rattle.module_host.specs.Meaning.{module_meaning}
 use Rattle.module_host.specs.Meaning.{object_at, object_outcome, outcome_reply}
 use Rattle.module_host.specs.declared.hosts.ModuleHost.{ModuleHost}
 use Rattle.star_core.specs.Heaps.{Change, HeapState, made, made_with, sum_for}

@@ -1,5 +1,6 @@
 -- What the objects of a module file do when an evaluation calls them: Bazel, "MODULE.bazel files".
-use Rattle.std.specs.Prelude.{ℕ, pos, Bool, List, [], ◌∷◌, Option, Some, None, Result, Ok, Err, codes}
+use Rattle.std.specs.Prelude.{ℕ, pos, Bool, List, [], ◌∷◌, Option, Some, None, Result, Ok, Err}
+use Rattle.std.specs.Prelude.{codes}
 use Rattle.std.specs.Prelude.{if◌then◌else◌}
 use Rattle.bz_base.specs.Names.{is_identifier}
 use Rattle.bz_base.specs.declared.declarations.ModuleDecl.{ModuleDecl}

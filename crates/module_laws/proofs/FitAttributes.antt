@@ -1,14 +1,14 @@
 -- Attributes of a call are good, and their names differ.
-use Rattle.std.proofs.Common.{◌≡◌, ◌≢◌, ℕ, ◌<◌, ◌≤◌, Bool, true, false, not, ◌&&◌, ◌||◌, List, [], ◌∷◌}
+use Rattle.std.proofs.Common.{◌≡◌, ◌≢◌, ℕ, ◌≤◌, Bool, true, false, not, List, []}
+use Rattle.std.proofs.Common.{◌∷◌}
 use Rattle.std.proofs.Common.{◌++◌, Result, Ok, Err, IfOk, IsTrue, refl, ap, ◌∙◌, sym, bytes_eq}
-use Rattle.std.proofs.Common.{if◌then◌else◌, get_or, length, arith}
+use Rattle.std.proofs.Common.{get_or, arith}
 use Rattle.std.proofs.lemmas.Bool.{and_parts, cond_both, or_parts}
 use Rattle.std.proofs.lemmas.Cmp.{nat_list_eq_equiv}
-use Rattle.std.proofs.lemmas.List.Elements.{All-append, All-cons, All-nil, All-head, All-tail}
+use Rattle.std.proofs.lemmas.List.Elements.{All-append, All-cons, All-nil}
 use Rattle.std.proofs.lemmas.List.Quantifiers.{all_pairs_push}
 use Rattle.std.specs.Prelude.{All, AllPairs}
 use Rattle.std.specs.List.{list_any}
-use Rattle.bz_base.specs.ModuleDeclarations.{AreAttrs}
 use Rattle.bz_base.specs.PlainReading.{is_good, plain_depth}
 use Rattle.bz_base.specs.declared.plain_labels.NotPlain.{NotPlain}
 use Rattle.bz_base.specs.declared.plain_values.Named.{Named}

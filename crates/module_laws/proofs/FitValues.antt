@@ -1,7 +1,9 @@
 -- What a parameter is given fits its kind.
-use Rattle.std.proofs.Common.{◌≡◌, ◌≢◌, ℕ, ◌+◌, ◌<◌, ◌≤◌, suc, ℤ, pos, negsuc, Bool, true, false, not}
-use Rattle.std.proofs.Common.{◌&&◌, ◌||◌, ◌==◌, List, [], ◌∷◌, ◌++◌, Option, Some, None, Result, Ok, Err}
-use Rattle.std.proofs.Common.{IfOk, IsTrue, refl, ap, ◌∙◌, sym, subst, arith, nat_lt, ◌⊎◌, inl}
+use Rattle.std.proofs.Common.{◌≡◌, ◌≢◌, ℕ, ◌+◌, suc, ℤ, pos, negsuc, Bool, true, false}
+use Rattle.std.proofs.Common.{not}
+use Rattle.std.proofs.Common.{◌||◌, List, [], ◌∷◌, ◌++◌, Option, Some, None, Result, Ok}
+use Rattle.std.proofs.Common.{Err}
+use Rattle.std.proofs.Common.{IfOk, refl, ap, ◌∙◌, sym, subst, arith, nat_lt, ◌⊎◌, inl}
 use Rattle.std.proofs.Common.{inr, bytes_eq, append-nil}
 use Rattle.std.proofs.lemmas.Bool.{and_parts, cond_both, ltb-false, or_cases}
 use Rattle.std.proofs.lemmas.List.{append_assoc}
@@ -10,8 +12,7 @@ use Rattle.std.proofs.lemmas.List.Folds.{Any-from_list_any}
 use Rattle.std.proofs.Math.Dec.{eqb-suc-zero}
 use Rattle.std.proofs.lemmas.Cmp.{nat_list_eq_equiv}
 use Rattle.std.specs.Prelude.{All, Any, IsOk, ⊤, length}
-use Rattle.std.specs.List.{list_any}
-use Rattle.bz_base.specs.ModuleDeclarations.{IsRegistry, IsRegistryOrNone, IsVersionText}
+use Rattle.bz_base.specs.ModuleDeclarations.{IsRegistryOrNone, IsVersionText}
 use Rattle.bz_base.specs.Paths.{joined}
 use Rattle.bz_base.specs.declared.tree_path.BadPath.{BadPath}
 use Rattle.bz_version.proofs.Readings.{kept_is_read_again}
@@ -19,13 +20,15 @@ use Rattle.bz_version.specs.Scan.{version_of}
 use Rattle.bz_version.specs.declared.versions.BadVersion.{BadVersion}
 use Rattle.registry_index.proofs.RegistryForms.{is_registry-IsRegistry}
 use Rattle.registry_index.specs.Registries.{is_registry}
-use Rattle.module_arguments.specs.Arguments.{argument_of, by_name, by_place, each_fits, either, fits}
+use Rattle.module_arguments.specs.Arguments.{argument_of, by_name, by_place, each_fits, either}
+use Rattle.module_arguments.specs.Arguments.{fits}
 use Rattle.module_arguments.specs.GivenValues.{ReadGiven, and_given, and_version, default_of}
 use Rattle.module_arguments.specs.GivenValues.{each_given, enough, given_after, given_by, is_empty}
 use Rattle.module_arguments.specs.GivenValues.{is_name, level_of, level_read, path_given}
 use Rattle.module_arguments.specs.GivenValues.{some_differ, string_given, text_given, text_read}
 use Rattle.module_arguments.specs.GivenValues.{value_given, version_kept, version_read}
-use Rattle.module_arguments.specs.GivenValues.{flag_given, integer_given, maximum_given, proxy_given}
+use Rattle.module_arguments.specs.GivenValues.{flag_given, integer_given, maximum_given}
+use Rattle.module_arguments.specs.GivenValues.{proxy_given}
 use Rattle.module_arguments.specs.GivenValues.{texts_given, unset_given, versions_after}
 use Rattle.module_arguments.specs.GivenValues.{versions_given}
 use Rattle.module_arguments.specs.Objects.{object_in}
@@ -38,7 +41,7 @@ use Rattle.module_arguments.specs.declared.parameters.Parameter.{Parameter}
 use Rattle.module_arguments.specs.declared.parameters.ParameterName.{ParameterName}
 use Rattle.module_arguments.specs.declared.parameters.TextKind.{TextKind}
 use Rattle.module_arguments.specs.declared.parameters.TextKind.TheVariants as text
-use Rattle.module_laws.specs.Fits.{AllFit, AreVersions, Fits, FitsText, IsLevel, IsText}
+use Rattle.module_laws.specs.Fits.{AllFit, Fits, IsLevel, IsText}
 use Rattle.module_laws.specs.Fits.{IsTextOrNone, IsVersions}
 use Rattle.module_values.specs.TextLists.{text_at, texts_of}
 use Rattle.star_core.specs.Heaps.{HeapState, cell_at}

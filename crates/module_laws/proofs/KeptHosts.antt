@@ -1,20 +1,20 @@
 -- Whatever an evaluation calls, its host stays good.
-use Rattle.std.proofs.Common.{◌≡◌, ℕ, Bool, true, false, List, Option, Some, None, Ok, Err, refl}
+use Rattle.std.proofs.Common.{ℕ, List, Option, Some, None, Ok, Err}
 use Rattle.std.proofs.lemmas.Bool.{cond_both}
 use Rattle.bz_base.specs.Names.{is_identifier}
 use Rattle.module_arguments.specs.GivenValues.{is_empty}
 use Rattle.module_arguments.specs.declared.objects.Object.{Object}
 use Rattle.module_arguments.specs.declared.objects.Object.TheVariants as object
-use Rattle.module_directives.specs.Directives.{directive_row, repository_row, tag_row}
 use Rattle.module_directives.specs.Outcomes.{Outcome}
 use Rattle.module_directives.specs.declared.readers.Reader.{Reader}
-use Rattle.module_host.specs.Meaning.{cell_reply, field_reply, gift_cell, made_reply, module_meaning}
-use Rattle.module_host.specs.Meaning.{not_called, object_at, object_outcome, outcome_reply}
+use Rattle.module_host.specs.Meaning.{cell_reply, field_reply, gift_cell, made_reply}
+use Rattle.module_host.specs.Meaning.{module_meaning}
+use Rattle.module_host.specs.Meaning.{object_at, object_outcome, outcome_reply}
 use Rattle.module_host.specs.declared.hosts.ModuleHost.{ModuleHost}
 use Rattle.module_laws.proofs.KeptRows.{directive_keeps, repository_row_keeps, tag_row_keeps}
 use Rattle.module_laws.specs.Kept.{IsKept, KeptBy, KeptByReply}
 use Rattle.star_core.specs.Heaps.{Change, HeapState, made}
-use Rattle.star_core.specs.Hosts.{Field, HostCall, Lacks, Method, Reply}
+use Rattle.star_core.specs.Hosts.{Field, HostCall, Method}
 use Rattle.star_core.specs.Tables.{Table}
 use Rattle.star_core.specs.declared.cells.Cell.{Cell}
 use Rattle.star_core.specs.declared.cells.Cell.TheVariants as cell

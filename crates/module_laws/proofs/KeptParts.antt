@@ -1,13 +1,12 @@
 -- What comes to a usage keeps the parts of a file good.
-use Rattle.std.proofs.Common.{◌≡◌, ℕ, zero, suc, true, List, [], ◌∷◌, ◌++◌, Option, Some, None, IsTrue}
+use Rattle.std.proofs.Common.{◌≡◌, ℕ, zero, suc, List, [], ◌∷◌, Option, Some, None}
 use Rattle.std.proofs.Common.{refl, subst, sym}
 use Rattle.std.proofs.lemmas.List.Elements.{All-append, All-cons, All-head, All-nil, All-tail}
 use Rattle.std.specs.Prelude.{All, slice_get}
-use Rattle.bz_base.specs.ModuleDeclarations.{AreAttrs, IsImport, IsPart, IsRepoChange, IsTag, IsUsage}
-use Rattle.bz_base.specs.Names.{is_identifier}
+use Rattle.bz_base.specs.ModuleDeclarations.{IsImport, IsPart, IsRepoChange, IsTag}
+use Rattle.bz_base.specs.ModuleDeclarations.{IsUsage}
 use Rattle.bz_base.specs.declared.declarations.Part.{Part}
 use Rattle.bz_base.specs.declared.declarations.Part.TheVariants as part
-use Rattle.bz_base.specs.declared.declarations.Tag.{Tag}
 use Rattle.bz_base.specs.declared.declarations.Usage.{Usage}
 use Rattle.module_arguments.specs.declared.name_pairs.NamePair.{NamePair}
 use Rattle.module_directives.specs.Parts.{addition_of, names_added, part_added, part_with}

@@ -1,8 +1,9 @@
 -- What directives make of a reader keeps it good.
 use Rattle.std.proofs.Common.{◌≡◌, ◌≢◌, ℕ, zero, suc, ◌<◌, ◌≤◌, Bool, true, false, not, ◌&&◌, ◌||◌}
-use Rattle.std.proofs.Common.{◌==◌, List, [], ◌∷◌, ◌++◌, Option, Some, None, Result, Ok, Err, IsTrue, refl}
-use Rattle.std.proofs.Common.{ap, ◌∙◌, sym, subst, arith, bytes_eq, codes, get_or, ◌⊎◌, inl, inr, length, take}
-use Rattle.std.proofs.Common.{if◌then◌else◌}
+use Rattle.std.proofs.Common.{◌==◌, List, [], ◌∷◌, ◌++◌, Option, Some, None}
+use Rattle.std.proofs.Common.{IsTrue, refl}
+use Rattle.std.proofs.Common.{ap, ◌∙◌, sym, subst, arith, bytes_eq, codes, get_or, ◌⊎◌, inl, inr}
+use Rattle.std.proofs.Common.{length, take}
 use Rattle.std.proofs.lemmas.Bool.{and_from, and_parts, cond_both, false_from_ne_true, or_cases}
 use Rattle.std.proofs.lemmas.Bool.{or_left, or_right}
 use Rattle.std.proofs.lemmas.Cmp.{nat_list_eq_equiv}
@@ -11,13 +12,14 @@ use Rattle.std.proofs.lemmas.List.Folds.{list_any_at}
 use Rattle.std.proofs.lemmas.List.Kept.{AllPairs-cons}
 use Rattle.std.proofs.lemmas.List.Quantifiers.{all_pairs_push}
 use Rattle.std.specs.Char.{is_ascii_alphabetic, is_ascii_digit, is_ascii_lowercase}
-use Rattle.std.specs.Prelude.{All, AllPairs, IsOk, slice_get, ⊤}
-use Rattle.std.specs.List.{list_all, list_any}
+use Rattle.std.specs.Prelude.{All, AllPairs, slice_get, ⊤}
+use Rattle.std.specs.List.{list_all}
 use Rattle.bz_base.proofs.PlainLaws.{depth-Text, good-Text}
-use Rattle.bz_base.specs.ModuleDeclarations.{AreAttrs, IsDep, IsNodep, IsOverrideKind, IsOverrideOf}
-use Rattle.bz_base.specs.ModuleDeclarations.{IsPart, IsRegistryOrNone, IsRootDeclared, IsUsage}
+use Rattle.bz_base.specs.ModuleDeclarations.{IsDep, IsNodep, IsOverrideKind, IsOverrideOf}
+use Rattle.bz_base.specs.ModuleDeclarations.{IsPart}
 use Rattle.bz_base.specs.ModuleDeclarations.{IsVersionText}
-use Rattle.bz_base.specs.Names.{ends, is_apparent_byte, is_identifier, is_module_byte, is_module_name}
+use Rattle.bz_base.specs.Names.{is_apparent_byte, is_identifier, is_module_byte}
+use Rattle.bz_base.specs.Names.{is_module_name}
 use Rattle.bz_base.specs.Names.{is_joint, is_repository_name}
 use Rattle.bz_base.specs.declared.declarations.Dep.{Dep}
 use Rattle.bz_base.specs.declared.declarations.Override.{Override}
@@ -41,10 +43,10 @@ use Rattle.module_arguments.specs.declared.parameters.Parameter.{Parameter}
 use Rattle.module_arguments.specs.declared.parameters.TextKind.{TextKind}
 use Rattle.module_arguments.specs.declared.parameters.TextKind.TheVariants as text
 use Rattle.module_directives.specs.Readers.{begun, begun_reader, counts, counts_dev, declared_of}
-use Rattle.module_directives.specs.Readers.{dep_called, dep_declared, dep_of, given_flag, given_level}
+use Rattle.module_directives.specs.Readers.{dep_declared, dep_of, given_flag}
 use Rattle.module_directives.specs.Readers.{given_texts, is_nothing, is_overridden, is_root}
 use Rattle.module_directives.specs.Readers.{level_of_given, local_kind, module_declared}
-use Rattle.module_directives.specs.Readers.{multiple_kind, named_first, names_declared, nodep_of}
+use Rattle.module_directives.specs.Readers.{multiple_kind, names_declared, nodep_of}
 use Rattle.module_directives.specs.Readers.{or_else, override_declared, repository_declared}
 use Rattle.module_directives.specs.Readers.{rule_declared, single_kind, tag_declared}
 use Rattle.module_directives.specs.Readers.{texts_of_given, usage_declared, usage_of, with_names}
@@ -59,9 +61,9 @@ use Rattle.module_laws.proofs.FitAttributes.{AttrsFit, IsGoodAttr}
 use Rattle.module_laws.proofs.FitNames.{IsPair}
 use Rattle.module_laws.proofs.FitValues.{empty_text}
 use Rattle.module_laws.proofs.KeptParts.{names_added_keep, part_added_keeps}
-use Rattle.module_laws.specs.Fits.{AllFit, AreVersions, Fits, FitsText, IsTextOrNone}
+use Rattle.module_laws.specs.Fits.{AllFit, AreVersions, Fits, FitsText}
 use Rattle.module_laws.specs.Kept.{IsKept, KeptBy}
-use Rattle.module_names.specs.ExportedNames.{is_exported_name, is_private}
+use Rattle.module_names.specs.ExportedNames.{is_private}
 
 -- ---- what was given at an index
 

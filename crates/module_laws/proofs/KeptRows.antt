@@ -1,13 +1,12 @@
 -- Each row of the table of directives keeps a reader good.
-use Rattle.std.proofs.Common.{◌≡◌, ℕ, Bool, true, false, ◌&&◌, ◌||◌, List, [], ◌∷◌, Option, Some, None}
-use Rattle.std.proofs.Common.{Result, Ok, Err, IfOk, IsTrue, refl, arith, inl, if◌then◌else◌}
+use Rattle.std.proofs.Common.{◌≡◌, ℕ, Bool, true, false, List, [], Option}
+use Rattle.std.proofs.Common.{Result, Ok, Err, IfOk, refl, arith, inl, if◌then◌else◌}
 use Rattle.std.proofs.lemmas.Bool.{and_parts, cond_both}
-use Rattle.std.specs.Prelude.{All, ⊤, slice_get}
+use Rattle.std.specs.Prelude.{All}
 use Rattle.bz_base.specs.Names.{is_identifier}
 use Rattle.bz_base.specs.declared.declarations.OverrideKind.{OverrideKind}
 use Rattle.bz_base.specs.declared.declarations.OverrideKind.TheVariants as override
-use Rattle.bz_base.specs.declared.plain_values.Named.{Named}
-use Rattle.module_arguments.specs.Arguments.{binds, each_fits, further, names_differ, none_left}
+use Rattle.module_arguments.specs.Arguments.{binds, each_fits, further, names_differ}
 use Rattle.module_arguments.specs.Attributes.{attributes_in}
 use Rattle.module_arguments.specs.Directives.{attribute_shape, parameters_of}
 use Rattle.module_arguments.specs.Directives.{repository_parameters, shape_of}
@@ -17,26 +16,25 @@ use Rattle.module_arguments.specs.declared.directives.Directive.{Directive}
 use Rattle.module_arguments.specs.declared.directives.Directive.TheVariants as directive
 use Rattle.module_arguments.specs.declared.directives.Shape.{Shape}
 use Rattle.module_arguments.specs.declared.given_values.Given.{Given}
-use Rattle.module_arguments.specs.declared.name_pairs.NamePair.{NamePair}
 use Rattle.module_arguments.specs.declared.objections.Objection.{Objection}
 use Rattle.module_arguments.specs.declared.parameters.Parameter.{Parameter}
-use Rattle.module_directives.specs.Directives.{bound_repository, bound_row, directive_row, labels_given}
-use Rattle.module_directives.specs.Directives.{may_run, module_row, names_row, override_row}
+use Rattle.module_directives.specs.Directives.{bound_row, directive_row}
+use Rattle.module_directives.specs.Directives.{labels_given}
+use Rattle.module_directives.specs.Directives.{may_run, names_row}
 use Rattle.module_directives.specs.Directives.{registered_row, repository_row, rule_at, source_row}
 use Rattle.module_directives.specs.Directives.{tag_row, takes_anything, values_of}
 use Rattle.module_directives.specs.Outcomes.{Outcome, and_then, done, module_late}
-use Rattle.module_directives.specs.Readers.{begun, dep_declared, given_proxy, local_kind}
-use Rattle.module_directives.specs.Readers.{module_declared, multiple_kind, names_declared}
-use Rattle.module_directives.specs.Readers.{override_declared, repository_declared, rule_declared}
-use Rattle.module_directives.specs.Readers.{single_kind, tag_declared, usage_declared}
+use Rattle.module_directives.specs.Readers.{given_proxy}
+use Rattle.module_directives.specs.Readers.{module_declared}
+use Rattle.module_directives.specs.Readers.{override_declared}
 use Rattle.module_directives.specs.declared.parts.Purpose.{Purpose}
 use Rattle.module_directives.specs.declared.parts.Purpose.TheVariants as purpose
 use Rattle.module_directives.specs.declared.readers.Reader.{Reader}
-use Rattle.module_directives.specs.declared.readers.RepoRule.{RepoRule}
 use Rattle.module_laws.proofs.FitAttributes.{AttrsFit, attributes_fit}
 use Rattle.module_laws.proofs.FitNames.{IsPair, pairs_fit}
 use Rattle.module_laws.proofs.FitValues.{DefaultsFit, each_given_fits}
-use Rattle.module_laws.proofs.KeptReaders.{archive_name, begun_keeps, dep_keeps, git_name, local_keeps, module_keeps}
+use Rattle.module_laws.proofs.KeptReaders.{archive_name, begun_keeps, dep_keeps, git_name}
+use Rattle.module_laws.proofs.KeptReaders.{local_keeps, module_keeps}
 use Rattle.module_laws.proofs.KeptReaders.{multiple_keeps, names_keep, override_keeps}
 use Rattle.module_laws.proofs.KeptReaders.{repository_keeps, rule_keeps, single_keeps, tag_keeps}
 use Rattle.module_laws.proofs.KeptReaders.{empty_version, usage_keeps}
@@ -45,7 +43,6 @@ use Rattle.module_laws.specs.Kept.{IsKept, KeptBy}
 use Rattle.module_values.specs.TextLists.{each_text}
 use Rattle.star_core.specs.Heaps.{HeapState}
 use Rattle.star_core.specs.declared.values.Args.{Args}
-use Rattle.star_core.specs.declared.values.NamedVal.{NamedVal}
 
 -- what comes behind a result that fits
 then_keeps : {A : Type 0} (P : A → Type 0) (r : Result A Objection) (next : A → Outcome)

@@ -1,5 +1,5 @@
 -- What a parameter of each kind may be given: Bazel, "MODULE.bazel files".
-use Rattle.std.specs.Prelude.{◌≡◌, ◌≢◌, ℕ, ◌≤◌, List, [], ◌∷◌, IsOk, IsTrue, All, Any, ⊤}
+use Rattle.std.specs.Prelude.{◌≢◌, ℕ, ◌≤◌, List, [], ◌∷◌, IsOk, IsTrue, All, Any, ⊤}
 use Rattle.bz_base.specs.ModuleDeclarations.{IsRegistryOrNone, IsVersionText}
 use Rattle.bz_base.specs.Paths.{joined}
 use Rattle.module_arguments.specs.GivenValues.{is_name}

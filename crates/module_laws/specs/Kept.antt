@@ -1,5 +1,5 @@
 -- What a reader of a module file keeps: all that it has read is as what a file declares is to be.
-use Rattle.std.specs.Prelude.{◌≡◌, false, List, [], Ok, Err, Option, Some, None, ⊤}
+use Rattle.std.specs.Prelude.{◌≡◌, false, [], Ok, Err, ⊤}
 use Rattle.bz_base.specs.ModuleDeclarations.{IsRootDeclared}
 use Rattle.module_directives.specs.Outcomes.{Outcome}
 use Rattle.module_directives.specs.Readers.{declared_by}

@@ -1,5 +1,6 @@
 -- What is read of a heap is good, and no deeper than is allowed.
-use Rattle.std.proofs.Common.{◌≡◌, ℕ, zero, suc, ◌≤◌, ℤ, true, Bool, List, [], ◌∷◌, ◌++◌, map, Result}
+use Rattle.std.proofs.Common.{◌≡◌, ℕ, zero, suc, ◌≤◌, ℤ, true, Bool, List, [], ◌∷◌, ◌++◌, map}
+use Rattle.std.proofs.Common.{Result}
 use Rattle.std.proofs.Common.{Ok, Err, Option, Some, None, IfOk, refl, ◌∙◌, sym, subst, arith}
 use Rattle.std.proofs.lemmas.Bool.{and_from, and_parts, cond_both}
 use Rattle.bz_base.specs.PlainLabels.{not_plain}
