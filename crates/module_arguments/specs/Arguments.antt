@@ -1,7 +1,7 @@
 -- How the arguments of a directive bind: the Starlark specification, "Function and method calls".
 -- No two arguments have one name; each parameter has at most one argument, a needed one has one;
 -- and none is left over but where a directive takes further ones.
-use Rattle.std.specs.Prelude.{ℕ, ◌+◌, ◌<◌, Bool, true, false, not, ◌&&◌, ◌||◌, nat_lt, List, []}
+use Rattle.std.specs.Prelude.{ℕ, ◌+◌, Bool, true, false, not, ◌&&◌, ◌||◌, nat_lt, List, []}
 use Rattle.std.specs.Prelude.{◌∷◌}
 use Rattle.std.specs.Prelude.{length, drop, slice_get, Option, Some, None, bytes_eq}
 use Rattle.std.specs.Prelude.{if◌then◌else◌}

@@ -1,7 +1,7 @@
 -- Names of repositories that `use_repo`, `override_repo` and `inject_repo` are given: Bazel,
 -- "MODULE.bazel files". A string by position stands for both names; a named argument pairs its
 -- keyword with its value. They are checked in order, of a named argument first the keyword.
-use Rattle.std.specs.Prelude.{ℕ, Bool, true, false, List, [], ◌∷◌, ◌++◌, Option, Some, None, Result}
+use Rattle.std.specs.Prelude.{ℕ, List, [], ◌∷◌, ◌++◌, Option, Some, None, Result}
 use Rattle.std.specs.Prelude.{Ok, Err, codes, if◌then◌else◌}
 use Rattle.bz_base.specs.Names.{is_repository_name}
 use Rattle.bz_base.specs.declared.refusals.Code.TheVariants.{BadName, BadValue}

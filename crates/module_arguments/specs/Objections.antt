@@ -1,8 +1,8 @@
 -- Why a directive is refused, before its place is known: Bazel, "MODULE.bazel files".
 use Rattle.std.specs.Prelude.{ℕ, List, codes}
 use Rattle.bz_base.specs.declared.refusals.Code.{Code}
-use Rattle.bz_base.specs.declared.refusals.Code.TheVariants.{BadName, BadValue, BadVersion, Fault}
-use Rattle.bz_base.specs.declared.refusals.Code.TheVariants.{FewVersions, Left}
+use Rattle.bz_base.specs.declared.refusals.Code.TheVariants.{BadValue, Fault}
+use Rattle.bz_base.specs.declared.refusals.Code.TheVariants.{Left}
 use Rattle.module_arguments.specs.Directives.{name_text}
 use Rattle.module_arguments.specs.declared.objections.Objection.{Objection}
 use Rattle.module_arguments.specs.declared.parameters.ParameterName.{ParameterName}

@@ -29,7 +29,6 @@ use Rattle.module_directives.specs.declared.readers.RepoRule.{RepoRule}
 use Rattle.module_values.specs.TextLists.{each_text}
 use Rattle.star_core.specs.Heaps.{HeapState}
 use Rattle.star_core.specs.declared.values.Args.{Args}
-use Rattle.star_core.specs.declared.values.Val.{Val}
 
 -- what the parameters of a directive are given
 abbrev pub values_of : Directive → HeapState → Args → Result (List Given) Objection

@@ -1,12 +1,8 @@
 -- What a module file says of extensions, part by part: Bazel, "MODULE.bazel files",
 -- `use_extension`.
 use Rattle.std.specs.Prelude.{ℕ, List, [], ◌∷◌, ◌++◌, slice_get, slice_set, Option, Some, None}
-use Rattle.bz_base.specs.declared.declarations.Declared.{Declared}
-use Rattle.bz_base.specs.declared.declarations.Import.{Import}
 use Rattle.bz_base.specs.declared.declarations.Part.{Part}
 use Rattle.bz_base.specs.declared.declarations.Part.TheVariants as part
-use Rattle.bz_base.specs.declared.declarations.RepoChange.{RepoChange}
-use Rattle.bz_base.specs.declared.declarations.Tag.{Tag}
 use Rattle.bz_base.specs.declared.declarations.Usage.{Usage}
 use Rattle.module_arguments.specs.declared.name_pairs.NamePair.{NamePair}
 use Rattle.module_directives.specs.declared.parts.Addition.{Addition}

@@ -14,7 +14,7 @@ use Rattle.module_host.specs.Meaning.{object_at, object_outcome, outcome_reply}
 use Rattle.module_host.specs.declared.hosts.ModuleHost.{ModuleHost}
 use Rattle.star_core.specs.Heaps.{Change, HeapState, made, made_with, sum_for}
 use Rattle.star_core.specs.Hosts.{AsksAnew, Field, HostCall, IsLawful, IsNoQuestion, KeepsCells}
-use Rattle.star_core.specs.Hosts.{Lacks, Method, Reply, ReturnsWell}
+use Rattle.star_core.specs.Hosts.{Lacks, Method, ReturnsWell}
 use Rattle.star_core.specs.Sizes.{size_of}
 use Rattle.star_core.specs.Tables.{Table, Within}
 use Rattle.star_core.specs.declared.cells.Cell.{Cell}

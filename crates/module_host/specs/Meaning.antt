@@ -1,9 +1,8 @@
 -- What the objects of a module file do when an evaluation calls them: Bazel, "MODULE.bazel files".
-use Rattle.std.specs.Prelude.{ℕ, pos, Bool, List, [], ◌∷◌, Option, Some, None, Result, Ok, Err}
+use Rattle.std.specs.Prelude.{ℕ, pos, List, [], ◌∷◌, Option, Some, None, Ok, Err}
 use Rattle.std.specs.Prelude.{codes}
 use Rattle.std.specs.Prelude.{if◌then◌else◌}
 use Rattle.bz_base.specs.Names.{is_identifier}
-use Rattle.bz_base.specs.declared.declarations.ModuleDecl.{ModuleDecl}
 use Rattle.bz_base.specs.declared.refusals.Code.TheVariants as code
 use Rattle.module_arguments.specs.GivenValues.{is_empty}
 use Rattle.module_arguments.specs.Objections.{objection}
@@ -21,7 +20,6 @@ use Rattle.module_directives.specs.declared.readers.Role.{Role}
 use Rattle.module_host.specs.declared.hosts.ModuleHost.{ModuleHost}
 use Rattle.star_core.specs.Heaps.{Change, HeapState, cell_at, made}
 use Rattle.star_core.specs.Hosts.{Field, HostCall, Lacks, Meaning, Method, Refuses, Reply, Returns}
-use Rattle.star_core.specs.Tables.{Table}
 use Rattle.star_core.specs.declared.cells.Cell.{Cell}
 use Rattle.star_core.specs.declared.cells.Cell.TheVariants as cell
 use Rattle.star_core.specs.declared.values.Args.{Args}

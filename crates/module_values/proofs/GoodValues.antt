@@ -1,5 +1,5 @@
 -- What is read of a heap is good, and no deeper than is allowed.
-use Rattle.std.proofs.Common.{◌≡◌, ℕ, zero, suc, ◌≤◌, ℤ, true, Bool, List, [], ◌∷◌, ◌++◌, map}
+use Rattle.std.proofs.Common.{◌≡◌, ℕ, zero, suc, ◌≤◌, true, List, [], ◌∷◌, ◌++◌, map}
 use Rattle.std.proofs.Common.{Result}
 use Rattle.std.proofs.Common.{Ok, Err, Option, Some, None, IfOk, refl, ◌∙◌, sym, subst, arith}
 use Rattle.std.proofs.lemmas.Bool.{and_from, and_parts, cond_both}
@@ -7,7 +7,6 @@ use Rattle.bz_base.specs.PlainLabels.{not_plain}
 use Rattle.bz_base.specs.PlainReading.{added, all_good, deepest, has_64_bits, is_good, is_good_pair}
 use Rattle.bz_base.specs.PlainReading.{items_plain, pair_depth, paired, pairs_plain, plain_depth}
 use Rattle.bz_base.specs.declared.plain_labels.NotPlain.{NotPlain}
-use Rattle.bz_base.specs.declared.plain_values.Plain as plain
 use Rattle.bz_base.specs.declared.plain_values.Plain.{Plain}
 use Rattle.bz_base.specs.declared.plain_values.PlainPair.{PlainPair}
 use Rattle.bz_base.proofs.PlainLaws.{depth-None, depth-Flag, depth-Int, depth-Text, depth-Items}
@@ -20,7 +19,7 @@ use Rattle.star_core.specs.declared.dict.Pair.{Pair}
 use Rattle.star_core.specs.declared.values.Val.{Val}
 use Rattle.star_core.specs.declared.values.Val.TheVariants as val
 use Rattle.module_values.specs.PlainValues.{ReadPlain, cell_plain, each_item, each_pair}
-use Rattle.module_values.specs.PlainValues.{integer_plain, pair_of, plain_of, plain_within}
+use Rattle.module_values.specs.PlainValues.{pair_of, plain_of, plain_within}
 use Rattle.module_values.specs.PlainValues.{value_layer}
 
 -- a good value, no deeper than so much
