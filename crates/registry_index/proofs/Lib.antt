@@ -1,4 +1,4 @@
 pub mod Readings
 mod KeptDirectories
-mod RegistryForms
+pub mod RegistryForms
 mod UrlSets

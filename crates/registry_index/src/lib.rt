@@ -25,4 +25,4 @@ mod sources;
 
 pub use asked_files::FileHash;
 pub use registries::{Registries, RegistryFile, Source};
-pub use registry_text::BadRegistry;
+pub use registry_text::{BadRegistry, is_registry};

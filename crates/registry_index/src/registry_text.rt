@@ -14,7 +14,7 @@ use std::alloc::Global;
 pub struct BadRegistry;
 
 /// Whether a text names a registry.
-pub(crate) fn is_registry(alloc: Global, text: &str) -> Mem<bool>
+pub fn is_registry(alloc: Global, text: &str) -> Mem<bool>
     ensures { IfOk result (λ good. good ≡ spec.is_registry text.now) }
 {
     match in_workspace(text) {

@@ -1,0 +1,4 @@
+pub mod Directives
+pub mod Outcomes
+pub mod Parts
+pub mod Readers

@@ -1,0 +1,3 @@
+pub mod GoodValues
+pub mod Integers
+pub mod Layers
