@@ -96,8 +96,8 @@ fn refusals_tell_where_the_statement_begins(rt: HostRuntime) -> Result<(), Fail>
             ("def f(o):\n    return x\n\nx = 1\n", "1  2 5"),
             ("def f(o):\n    x = x\n", "Fault unbound t.bzl:2  2 3"),
             (
-                "def f(o):\n    return [i for i in [1]]\n",
-                "Unsupported  t.bzl:2  2 3",
+                "def f(o):\n    return sorted([1], key = len)\n",
+                "Unsupported  t.bzl:2  6 7",
             ),
             (
                 "def f(o):\n    return {1: 2, 1: 3}\n",
@@ -106,6 +106,74 @@ fn refusals_tell_where_the_statement_begins(rt: HostRuntime) -> Result<(), Fail>
             (
                 "def f(o):\n    return o.count().x\n",
                 "Fault attr t.bzl:2  5 6",
+            ),
+        ],
+    )
+}
+
+#[test]
+fn arguments_are_bound_to_parameters(rt: HostRuntime) -> Result<(), Fail> {
+    agree(
+        &rt,
+        &[
+            (
+                "def f(o, a = [1, 2], *b, k = 3, **c):\n    return a, b, k, c\n",
+                "([1, 2], (), 3, {})  6 11",
+            ),
+            (
+                "def f(o):\n    return g(1, k = 4, *[2, 3], **{\"z\": 5})\n\ndef g(a, b = 0, *c, k, **d):\n    return [a, b, c, k, d]\n",
+                "[1, 2, (3,), 4, {\"z\": 5}]  18 21",
+            ),
+            (
+                "def f(o):\n    return g(1, a = 2)\n\ndef g(a):\n    return a\n",
+                "Fault arity t.bzl:2  5 7",
+            ),
+            (
+                "def f(o):\n    return g(**{1: 2})\n\ndef g(**a):\n    return a\n",
+                "Fault type t.bzl:2  6 8",
+            ),
+            (
+                "def f(o):\n    return g(k = 1, **{\"k\": 2})\n\ndef g(**a):\n    return a\n",
+                "Fault arity t.bzl:2  7 9",
+            ),
+            (
+                "def f(o):\n    return g(*1)\n\ndef g(*a):\n    return a\n",
+                "Fault type t.bzl:2  4 6",
+            ),
+            (
+                "def f(o):\n    n = 2\n    g = lambda x, y = n: x * y + n\n    n = 5\n    return g(3)\n",
+                "11  16 17",
+            ),
+            ("def f(o):\n    return o.g(k = 1)\n", "asks \"1\" 5 6"),
+            (
+                "def f(o):\n    def g(x = o.h(), *y, **z):\n        return x, y, z\n    return g(o.h(), *[o.count()], **{\"a\": o.h()})\n",
+                "asks (\"1\", (1,), {\"a\": \"1\"}) 24 25",
+            ),
+        ],
+    )
+}
+
+#[test]
+fn comprehensions_have_a_scope_of_their_own(rt: HostRuntime) -> Result<(), Fail> {
+    agree(
+        &rt,
+        &[
+            ("def f(o):\n    return [i for i in [1]]\n", "[1]  6 7"),
+            (
+                "def f(o):\n    i = 7\n    x = [i for i in range(3) if i > 0 for j in range(i)]\n    return x, i\n",
+                "([1, 2, 2], 7)  35 36",
+            ),
+            (
+                "def f(o):\n    return {k: v for k, v in [(1, 2), (1, 3)]}\n",
+                "{1: 3}  15 16",
+            ),
+            (
+                "def f(o):\n    return [o.h() for i in [1, 2]]\n",
+                "asks [\"1\", \"1\"] 13 14",
+            ),
+            (
+                "def f(o):\n    x = [1]\n    return [x.append(i) for i in x]\n",
+                "Fault iterating t.bzl:3  11 12",
             ),
         ],
     )

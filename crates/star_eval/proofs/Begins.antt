@@ -1,6 +1,6 @@
 -- Where a machine stands before its first step.
-use Rattle.std.proofs.Common.{◌≡◌, ◌∙◌, ap, refl, sym, subst, ℕ, List, [], ◌∷◌, length, Option, Some}
-use Rattle.std.proofs.Common.{None, slice_get, slice_set, IfOk, Result, Ok, Err}
+use Rattle.std.proofs.Common.{◌≡◌, refl, sym, subst, ℕ, List, [], ◌∷◌, length, Some}
+use Rattle.std.proofs.Common.{slice_get, slice_set, IfOk, Result, Ok, Err}
 use Rattle.std.proofs.lemmas.List.{reverse-append}
 use Rattle.bz_text.specs.declared.memory.OutOfMemory.{OutOfMemory}
 use Rattle.star_code.specs.declared.code.Code.{Code}
@@ -37,6 +37,7 @@ call_begins codes machine f values scopes heap limit here stands =
     (call_world limit scopes heap)) { stack = stack }) (reverse-append (f ∷ []) values)
     (rw (
       stands.task_is,
+      stands.gathered_is,
       stands.callers_are,
       stands.leaving_is,
       stands.running_is,
@@ -58,6 +59,7 @@ unfolding block_of left_of
 file_begins codes machine number code free scopes heap limit here stands =
     rw (
       stands.task_is,
+      stands.gathered_is,
       stands.callers_are,
       stands.leaving_is,
       stands.running_is,

@@ -1,10 +1,9 @@
 -- Files beside their code: one more, and another way to call.
-use Rattle.std.proofs.Common.{◌≡◌, ◌∙◌, ap, refl, sym, subst, ℕ, zero, suc, List, [], ◌∷◌, ◌++◌}
-use Rattle.std.proofs.Common.{length, map, Option, Some, None, slice_get, slice_set}
+use Rattle.std.proofs.Common.{◌≡◌, refl, subst, ℕ, zero, suc, List, [], ◌∷◌, ◌++◌}
+use Rattle.std.proofs.Common.{length, map, Some, slice_get, slice_set}
 use Rattle.std.proofs.lemmas.List.{map-append}
-use Rattle.star_code.specs.Codes.{BothCoded, FileCoded, FilesCoded, PairCoded, StmtsCode, Tables, tables_of}
+use Rattle.star_code.specs.Codes.{BothCoded, FileCoded, PairCoded, StmtsCode, Tables, tables_of}
 use Rattle.star_code.specs.declared.code.Code.{Code}
-use Rattle.star_code.specs.declared.code.FnEntry.{FnEntry}
 use Rattle.star_compiler.specs.Emitted.{IsCompiled}
 use Rattle.star_compiler.specs.declared.files.Compiled.{Compiled}
 use Rattle.star_core.specs.Heaps.{HeapState}
@@ -12,7 +11,6 @@ use Rattle.star_eval.specs.Loaded.{IsAdded, IsLoaded, call_code, empty_program, 
 use Rattle.star_eval.specs.declared.files.Program as declared
 use Rattle.star_meaning.specs.Expressions.{Program}
 use Rattle.star_trees.specs.declared.files.File.{File}
-use Rattle.star_trees.specs.declared.files.FnCode.{FnCode}
 
 abbrev Pairs : List Program → List Code → Type 0
 Pairs programs codes =
@@ -63,7 +61,7 @@ pub last_code : (code : Code) (programs : List Program) (codes : List Code)
 last_code code programs codes loaded = last_pair code programs codes loaded.coded.each
 
 none_coded : (t : Tables) (index : ℕ)
-    → BothCoded t (slice_get [] index) (slice_get [] index)
+    → BothCoded t index (slice_get [] index) (slice_get [] index)
 none_coded t zero = tt
 none_coded t (suc index) = tt
 

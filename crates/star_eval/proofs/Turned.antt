@@ -1,5 +1,5 @@
 -- What a turn answers of what an evaluation stands for, and where it is parked.
-use Rattle.std.proofs.Common.{◌≡◌, ◌∙◌, ap, refl, sym, subst, ℕ, List, Option, Result, Ok, Err}
+use Rattle.std.proofs.Common.{◌≡◌, refl, sym, subst, ℕ, List, Result, Ok, Err}
 use Rattle.bz_text.specs.declared.memory.Miss.{Miss}
 use Rattle.bz_text.specs.declared.memory.Miss.TheVariants as miss
 use Rattle.bz_text.specs.declared.memory.OutOfMemory.{OutOfMemory}
@@ -11,9 +11,9 @@ use Rattle.star_eval.specs.Reasons.{placed, refusal_for}
 use Rattle.star_eval.specs.declared.evaluation.Evaluation.{Evaluation}
 use Rattle.star_eval.specs.declared.evaluation.TurnEnd.{TurnEnd}
 use Rattle.star_eval.specs.declared.evaluation.TurnEnd.TheVariants as end
-use Rattle.star_machine.specs.Configs.{Config, config_of}
+use Rattle.star_machine.specs.Configs.{config_of}
 use Rattle.star_meaning.specs.Libraries.{Rows}
-use Rattle.star_meaning.specs.Results.{Done, Outcome, Refused, RefusedByHost, Unanswered}
+use Rattle.star_meaning.specs.Results.{Outcome}
 use Rattle.star_meaning.specs.declared.reasons.Reason.{Reason}
 use Rattle.star_turn.specs.Turns.{ParksAt, Tells, Told}
 use Rattle.star_turn.specs.declared.turns.Came.{Came}

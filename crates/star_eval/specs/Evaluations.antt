@@ -1,5 +1,5 @@
 -- What an evaluation is begun as, what it stands for, and what a turn answers of it.
-use Rattle.std.specs.Prelude.{◌≡◌, ℕ, zero, suc, List, [], ◌∷◌, ◌++◌, length, map, reverse, Option}
+use Rattle.std.specs.Prelude.{◌≡◌, ℕ, zero, suc, List, [], ◌∷◌, length, map, reverse, Option}
 use Rattle.std.specs.Prelude.{Some, None, Result, Ok, Err, slice_get, ⊤}
 use Rattle.bz_base.specs.Counts.{counted}
 use Rattle.bz_base.specs.declared.refusals.Refusal.{Refusal}
@@ -22,6 +22,7 @@ use Rattle.star_eval.specs.declared.evaluation.TurnEnd.TheVariants as end
 use Rattle.star_machine.specs.Configs.{config_of, world_of}
 use Rattle.star_machine.specs.declared.machine.Machine.{Machine}
 use Rattle.star_machine.specs.declared.machine.Task.{Task}
+use Rattle.star_meaning.specs.Arguments.{no_args}
 use Rattle.star_meaning.specs.Libraries.{Rows}
 use Rattle.star_meaning.specs.Results.{Done, Outcome, Refused, RefusedByHost, Unanswered}
 use Rattle.star_meaning.specs.Worlds.{World}
@@ -96,6 +97,7 @@ beginning file block scope stack =
 pub record IsStanding (task : Task) (scopes : List Scope) (heap : HeapState) (limit : ℕ)
     (machine : Machine) : Type 0 where
   pub task_is : machine.task ≡ task
+  pub gathered_is : machine.gathered ≡ no_args
   pub callers_are : machine.callers ≡ []
   pub leaving_is : machine.leaving ≡ None
   pub running_is : machine.running ≡ []

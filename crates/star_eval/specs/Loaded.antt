@@ -1,5 +1,5 @@
 -- Files beside their code.
-use Rattle.std.specs.Prelude.{◌≡◌, ℕ, List, [], ◌∷◌, ◌++◌, length, Option, Some, slice_get}
+use Rattle.std.specs.Prelude.{◌≡◌, ℕ, List, [], ◌∷◌, ◌++◌, length, Some, slice_get}
 use Rattle.std.specs.Prelude.{slice_set}
 use Rattle.star_code.specs.Codes.{FileCoded, FilesCoded}
 use Rattle.star_code.specs.declared.code.Code.{Code}
@@ -33,6 +33,7 @@ call_code count =
     record {
       blocks = [] ∷ (instr.Call count ∷ instr.Return ∷ []) ∷ [];
       names = [];
+      shapes = [];
       functions = [];
       top = 0;
     }

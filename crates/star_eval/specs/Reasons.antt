@@ -5,6 +5,7 @@ use Rattle.bz_base.specs.declared.refusals.Code.TheVariants as code
 use Rattle.bz_base.specs.declared.refusals.Refusal.{Refusal}
 use Rattle.star_core.specs.declared.faults.Fault.{Fault}
 use Rattle.star_core.specs.declared.faults.Fault.TheVariants as fault
+use Rattle.star_meaning.specs.Worlds.{line_of}
 use Rattle.star_meaning.specs.declared.reasons.Place.{Place}
 use Rattle.star_meaning.specs.declared.reasons.Reason.{Reason}
 use Rattle.star_meaning.specs.declared.reasons.Reason.TheVariants as reason
@@ -61,10 +62,6 @@ or_no_name (Some name) = name
 abbrev pub file_name : List (List ℕ) → Option Place → List ℕ
 file_name names None = []
 file_name names (Some place) = or_no_name (slice_get names place.file)
-
-abbrev pub line_of : Option Place → ℕ
-line_of None = 0
-line_of (Some place) = place.line
 
 -- the language's own refusal
 abbrev pub refusal_for : List (List ℕ) → Reason → Option Place → Refusal

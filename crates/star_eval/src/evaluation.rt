@@ -15,7 +15,7 @@ use bz_base::{Refusal, Steps};
 use bz_text::{May, Mem, Miss, OutOfMemory, Txt};
 use sqlite_items::Items;
 use star_core::{Answers, Heap, Host, Question, Scopes, Stack, Val};
-use star_machine::{Machine, Task};
+use star_machine::{Machine, Task, no_args};
 use star_meaning::{Library, Place, Reason};
 use star_turn::{Came, turn as run};
 use std::alloc::Global;
@@ -183,6 +183,7 @@ fn standing(alloc: Global, task: Task, scopes: Scopes, heap: Heap, limit: u64) -
 {
     Machine {
         task,
+        gathered: no_args(alloc),
         callers: Stack::new(alloc),
         leaving: None,
         running: Stack::new(alloc),

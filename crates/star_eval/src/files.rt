@@ -109,6 +109,7 @@ fn calling(alloc: Global, count: usize) -> Mem<Code>
     Ok(Code {
         blocks,
         names: Items::new(alloc),
+        shapes: Items::new(alloc),
         functions: Items::new(alloc),
         top: 0,
     })

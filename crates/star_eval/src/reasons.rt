@@ -5,7 +5,7 @@ ghost use Rattle.star_eval.specs.Reasons as spec;
 use bz_base::{Code, Refusal};
 use bz_text::{Mem, Txt};
 use star_core::Fault;
-use star_meaning::{Place, Reason};
+use star_meaning::{Place, Reason, line_of};
 use std::alloc::Global;
 
 /// The kind of a fault as it is printed; sizes and depth have codes of their own.
@@ -63,15 +63,6 @@ fn file_name(names: &[Txt], place: Option<Place>) -> &str
     }
 }
 
-fn line(place: Option<Place>) -> u64
-    ensures { result ≡ spec.line_of place }
-{
-    match place {
-        None => 0,
-        Some(place) => place.line,
-    }
-}
-
 /// The language's own refusal.
 pub fn refusal(alloc: Global, names: &[Txt], why: Reason, place: Option<Place>) -> Mem<Refusal>
     ensures { IfOk result (λ refusal. refusal ≡ spec.refusal_for names.now why place) }
@@ -81,7 +72,7 @@ pub fn refusal(alloc: Global, names: &[Txt], why: Reason, place: Option<Place>) 
     Ok(Refusal {
         code: code(why),
         file,
-        line: line(place),
+        line: line_of(place),
         detail,
         hint: 0,
     })
@@ -94,6 +85,6 @@ pub fn placed(alloc: Global, names: &[Txt], refusal: Refusal, place: Option<Plac
     let file = Txt::of(alloc, file_name(names, place))?;
     let mut refusal = refusal;
     refusal.file = file;
-    refusal.line = line(place);
+    refusal.line = line_of(place);
     Ok(refusal)
 }
