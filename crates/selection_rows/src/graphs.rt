@@ -9,10 +9,11 @@ use std::alloc::Global;
 use std::test::Fail;
 use version_selection::{find_module, select};
 
+/// A key from its text; the root's is empty.
 fn key(alloc: Global, text: &str) -> Result<Key, Fail> {
     let (name, version) = match text.split_once('@') {
         Some((name, version)) => (name, version),
-        None => (text, ""),
+        None => ("", ""),
     };
     Ok(Key {
         name: Txt::of(alloc, name)?,
@@ -20,10 +21,13 @@ fn key(alloc: Global, text: &str) -> Result<Key, Fail> {
     })
 }
 
-fn keys(alloc: Global, texts: &[&str]) -> Result<Seq<Key>, Fail> {
+/// The keys of a text, with a space between two; the root's has no `@`.
+fn keys(alloc: Global, text: &str) -> Result<Seq<Key>, Fail> {
     let mut keys = Vec::new(alloc);
-    for text in texts {
-        keys.push(key(alloc, text)?)?;
+    for word in text.split(' ') {
+        if word != "" {
+            keys.push(key(alloc, word)?)?;
+        }
     }
     Ok(Seq::of_vec(keys))
 }
@@ -44,7 +48,7 @@ fn declaration(alloc: Global, level: u32, overrides: Seq<Override>) -> Result<Mo
 }
 
 /// A module at a level with what it needs; the module without a name is the root.
-fn node(alloc: Global, text: &str, level: u32, needs: &[&str]) -> Result<GraphNode, Fail> {
+fn node(alloc: Global, text: &str, level: u32, needs: &str) -> Result<GraphNode, Fail> {
     Ok(GraphNode {
         key: key(alloc, text)?,
         root: text.is_empty(),
@@ -56,7 +60,7 @@ fn node(alloc: Global, text: &str, level: u32, needs: &[&str]) -> Result<GraphNo
 }
 
 /// A graph of a root and further modules.
-pub(crate) fn graph(alloc: Global, lines: &[(&str, u32, &[&str])]) -> Result<Graph, Fail> {
+pub(crate) fn graph(alloc: Global, lines: &[(&str, u32, &str)]) -> Result<Graph, Fail> {
     let mut nodes = Vec::new(alloc);
     for (text, level, needs) in lines {
         nodes.push(node(alloc, text, *level, needs)?)?;
@@ -66,19 +70,20 @@ pub(crate) fn graph(alloc: Global, lines: &[(&str, u32, &[&str])]) -> Result<Gra
     })
 }
 
-fn texts(alloc: Global, words: &[&str]) -> Result<Seq<Txt>, Fail> {
-    let mut texts = Vec::new(alloc);
-    for word in words {
-        texts.push(Txt::of(alloc, word)?)?;
+/// The words of a text, with a space between two.
+fn words(alloc: Global, text: &str) -> Result<Seq<Txt>, Fail> {
+    let mut words = Vec::new(alloc);
+    for word in text.split(' ') {
+        words.push(Txt::of(alloc, word)?)?;
     }
-    Ok(Seq::of_vec(texts))
+    Ok(Seq::of_vec(words))
 }
 
-fn several(alloc: Global, versions: &[&str]) -> Result<Override, Fail> {
+fn several(alloc: Global, versions: &str) -> Result<Override, Fail> {
     Ok(Override {
         name: Txt::of(alloc, "d")?,
         kind: OverrideKind::Multiple {
-            versions: texts(alloc, versions)?,
+            versions: words(alloc, versions)?,
             registry: Txt::of(alloc, "")?,
         },
         line: 2,
@@ -86,7 +91,7 @@ fn several(alloc: Global, versions: &[&str]) -> Result<Override, Fail> {
 }
 
 /// The overrides of a root that lists several versions of `d`, or none.
-fn overrides(alloc: Global, versions: &[&str]) -> Result<Overrides, Fail> {
+fn overrides(alloc: Global, versions: &str) -> Result<Overrides, Fail> {
     if versions.is_empty() {
         let root = declaration(alloc, 0, Seq::new(alloc))?;
         return Ok(Overrides::of(alloc, &root)?);
@@ -137,8 +142,8 @@ fn selected_text(alloc: Global, graph: &Graph, selected: &Selected) -> Result<St
 /// What is selected of a graph, or why it is refused.
 pub(crate) fn answer(
     alloc: Global,
-    versions: &[&str],
-    lines: &[(&str, u32, &[&str])],
+    versions: &str,
+    lines: &[(&str, u32, &str)],
 ) -> Result<String, Fail> {
     let graph = graph(alloc, lines)?;
     let overrides = overrides(alloc, versions)?;
@@ -158,11 +163,11 @@ fn answer_of(alloc: Global, graph: &Graph, overrides: &Overrides) -> Result<Stri
 /// Where a key's module stands among those that are selected.
 pub(crate) fn place_of(
     alloc: Global,
-    lines: &[(&str, u32, &[&str])],
+    lines: &[(&str, u32, &str)],
     text: &str,
 ) -> Result<Option<u64>, Fail> {
     let graph = graph(alloc, lines)?;
-    let overrides = overrides(alloc, &[])?;
+    let overrides = overrides(alloc, "")?;
     let wanted = key(alloc, text)?;
     place_in(alloc, &graph, &overrides, &wanted)
 }
