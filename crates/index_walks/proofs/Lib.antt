@@ -1,1 +1,2 @@
+pub mod ReachingLaws
 pub mod Reachings

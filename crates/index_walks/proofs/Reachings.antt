@@ -1,6 +1,6 @@
 -- The walk over links: its indexes differ and are below the number of links, so that it ends.
 use Rattle.std.proofs.Common.{◌≡◌, ℕ, zero, suc, ◌+◌, ◌-◌, ◌<◌, ◌≤◌, Bool, true, false, ◌||◌, List}
-use Rattle.std.proofs.Common.{[], ◌∷◌, ◌++◌, length, map, take, drop, get_or, None, Some, Option}
+use Rattle.std.proofs.Common.{[], ◌∷◌, ◌++◌, length, take, drop, get_or, None, Some}
 use Rattle.std.proofs.Common.{Ok, Result, if◌then◌else◌, refl, ap, sym, ◌∙◌, subst, arith}
 use Rattle.std.specs.Prelude.{nat_eq, nat_lt, filter, cond}
 use Rattle.std.proofs.Math.ListN.{drop_of_length-le}
@@ -12,8 +12,7 @@ use Rattle.std.proofs.lemmas.Map.Keys.{IsDistinct-push}
 use Rattle.std.proofs.lemmas.Map.Steps.{length-le_from_distinct_below}
 use Rattle.std.proofs.lemmas.Option.{get_or_from_slice_get, slice_get_within}
 use Rattle.std.specs.Cmp.{nat_eq_equiv}
-use Rattle.std.specs.List.{AllByRecursion, IsDistinct, cons_option, list_any, slice_get}
-use Rattle.std.specs.Option.{option_map_or}
+use Rattle.std.specs.List.{AllByRecursion, IsDistinct, list_any, slice_get}
 use Rattle.indexmap.specs.IndexSet.{insert_all, insert_key}
 use Rattle.index_walks.specs.Reaching.{first_alone, index_rules, indexes_walked, links_at, over_links}
 use Rattle.index_walks.specs.Reaching.{reached, walked_indexes}

@@ -9,6 +9,7 @@
 //! Source: Bazel, "Bazel modules", section "Version selection".
 #![tactic(auto)]
 
+pub mod laws;
 pub mod reaching;
 
 pub use reaching::reached;
